@@ -1,0 +1,3 @@
+pub mod ListFacts
+pub mod Basics
+pub mod Form
