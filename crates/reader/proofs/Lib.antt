@@ -1,0 +1,3 @@
+pub mod Judging
+pub mod Arguments
+pub mod Rows
