@@ -1,0 +1,9 @@
+pub mod Checked
+pub mod Verdicts
+pub mod Whole
+pub mod Ruling
+pub mod Roots
+pub mod Numbers
+pub mod Readiness
+pub mod Marks
+pub mod Agreement
