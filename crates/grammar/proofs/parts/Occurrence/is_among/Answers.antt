@@ -9,7 +9,7 @@ abbrev test : Occurrence → Occurrence → Bool
 test o q = same_occurrence (occurrence_of o) (occurrence_of q)
 
 pub loop-other-preserved : goal.loop-other-preserved
-loop-other-preserved c = found_more (test c.args.self) c.args.others.now c.loop-other.other-index (record { position = 0; attribute = 0 }) c.loop-other.found c.same-as-found.result c.loop-other-test.true c.same-as-found.ensures c.loop-other.invariant
+loop-other-preserved c = found_more (test c.args.self) c.args.others.now c.loop-other.other-index (record { position = 0; attribute = 0 }) c.loop-other.found c.same_as-found.result c.loop-other-test.true c.same_as-found.ensures c.loop-other.invariant
 
 pub returns : goal.returns
 returns c =

@@ -9,7 +9,7 @@ use Rattle.grammar.proofs.parts.Production.rule_gives.Goals as goal
 pub returns-then-rule-len : goal.returns-then-rule-len
 returns-then-rule-len c =
     let e = at_read rule_of (vec_items c.args.self.now.rules) c.args.rule c.index.result.now (search rules) (search rules) in
-    c.same-as.ensures ∙ ap (λ (r : Option Model.Rule). rule_targets r (occurrence_of c.args.o)) e
+    c.same_as.ensures ∙ ap (λ (r : Option Model.Rule). rule_targets r (occurrence_of c.args.o)) e
 
 pub returns-else-rule-len : goal.returns-else-rule-len
 returns-else-rule-len c = ap (λ (r : Option Model.Rule). rule_targets r (occurrence_of c.args.o)) (at_past rule_of (vec_items c.args.self.now.rules) c.args.rule (search rules))

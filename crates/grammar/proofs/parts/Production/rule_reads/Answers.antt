@@ -11,7 +11,7 @@ use Rattle.grammar.proofs.parts.Production.rule_reads.Goals as goal
 pub returns-then-rule-len : goal.returns-then-rule-len
 returns-then-rule-len c =
     let e = at_read rule_of (vec_items c.args.self.now.rules) c.args.rule c.index.result.now (search rules) (search rules) in
-    c.is-among.ensures
+    c.is_among.ensures
     ∙ ap (λ (os : List Occurrence). any (Model.same_occurrence (occurrence_of c.args.o)) (map occurrence_of os)) c.deref.ensures.value
     ∙ ap (λ (r : Option Model.Rule). rule_uses r (occurrence_of c.args.o)) e
 
