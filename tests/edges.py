@@ -10,7 +10,6 @@ from __future__ import annotations
 import struct
 from typing import NamedTuple, Optional
 
-from plans import PLANS, written
 from schemes import full, to_bytes
 
 
@@ -101,23 +100,6 @@ LONG_STEPS = (
 )
 
 
-# A fork: symbols 0 and 1 have one synthesized attribute each.
-FORK = (
-    "11 211 11 211 "
-    "3001 401 5000001 6101 811 7 91 "
-    "3012 401 401 5040012 6101 6201 811 821 7 91 "
-    "301 502001 7 91 F"
-)
-
-# The full scheme has 7 symbols that fork, each with 4 inherited and 12
-# synthesized attributes, and then a giver with 16 synthesized ones.  A leaf of
-# the first uses its inherited ones of visits 1 to 3 up to section 4.  The
-# giver's attributes 8 to 10 and 12 to 14 are used once more in the section
-# after their own.  These spans cross a LEAVE; all other lives end before the
-# next VISIT or EVAL that could begin another.
-FULL_LETTERS = "KKK" + "C" * 117 + "KKKC" * 2
-
-
 def chain(symbols: int) -> list[str]:
     """Each symbol has the next one as its only child."""
     words = ["11"] * symbols
@@ -167,7 +149,7 @@ def size_edges() -> list[Edge]:
         Edge("16,387 bytes", bytes(16387), "no 8"),
         Edge("16,388 zero bytes", bytes(16388), "no 2"),
         Edge("16,389 bytes", bytes(16389), "no 8"),
-        Edge("4,096 words", to_bytes(fullest), "plan " + FULL_LETTERS),
+        Edge("4,096 words", to_bytes(fullest), "scheme 32 128 64"),
         Edge("4,096 words and an end", to_bytes(fullest + [0xF0000000]), "no 2"),
         Edge("4,097 words that begin with a bad one", to_bytes([0] + fullest), "no 2"),
         Edge("4,096 words without an end", to_bytes(fullest[:-1] + [0x91000000]), "no 3 4096"),
@@ -175,7 +157,7 @@ def size_edges() -> list[Edge]:
         Edge("4,096 words, the last of no kind", to_bytes(fullest[:-1] + [0]), "no 3 4095"),
         Edge("4,096 words, the last with a stray bit", to_bytes(fullest[:-1] + [0xF0000001]), "no 5 4095"),
         Edge("100,000 words", bytes(400000), "no 2"),
-        Edge("the shortest", scheme("11 3 91 F"), "plan "),
+        Edge("the shortest", scheme("11 3 91 F"), "scheme 1 0 1"),
     ]
 
 
@@ -202,7 +184,7 @@ ORDER = [
     ("an EVAL", HOUSE[:11], "3789F", {"F": "no 11 0"}),
     ("a VISIT", HOUSE[:12], "3789F", {"F": "no 11 0"}),
     ("a LEAVE", HOUSE[:14], "3789F", {"F": "no 11 0"}),
-    ("the last LEAVE", HOUSE[:29], "3789F", {"8": "no 6 29", "F": "plan KCC"}),
+    ("the last LEAVE", HOUSE[:29], "3789F", {"8": "no 6 29", "F": "scheme 2 3 3"}),
     ("the end", HOUSE, "", {}),
 ]
 
@@ -226,7 +208,7 @@ def order_edges() -> list[Edge]:
 # ---------------------------------------------------------- one word each
 
 HOUSE_EDITS: list[tuple[str, dict[int, str], str]] = [
-    ("nothing changed", {}, "plan KCC"),
+    ("nothing changed", {}, "scheme 2 3 3"),
     # symbols
     ("symbol with 0 visits", {0: "10"}, "no 5 0"),
     ("symbol with 5 visits", {0: "15"}, "no 5 0"),
@@ -284,8 +266,8 @@ HOUSE_EDITS: list[tuple[str, dict[int, str], str]] = [
     ("child symbol 0 with rules of another", {6: "4"}, "no 6 7"),
     ("child symbol 0 in a recursion", {15: "4"}, "no 6 16"),
     # rules
-    ("rule number 0", {7: "500101"}, "plan KCC"),
-    ("rule number 255", {7: "5FF101"}, "plan KCC"),
+    ("rule number 0", {7: "500101"}, "scheme 2 3 3"),
+    ("rule number 255", {7: "5FF101"}, "scheme 2 3 3"),
     ("rule position 7", {7: "501701"}, "no 5 7"),
     ("rule position 8", {7: "501801"}, "no 5 7"),
     ("rule position 15", {7: "501F01"}, "no 5 7"),
@@ -296,8 +278,8 @@ HOUSE_EDITS: list[tuple[str, dict[int, str], str]] = [
     ("rule with an argument too few", {7: "5011011"}, "no 3 8"),
     ("rule with an argument too many", {8: "5"}, "no 3 9"),
     ("rule with 1 argument of 2", {8: "5000002"}, "no 3 10"),
-    ("rule with the same argument twice", {8: "5000002", 9: "6102 6102"}, "plan KCC"),
-    ("rule with the same argument three times", {8: "5000003", 9: "6102 6102 6102"}, "plan KCC"),
+    ("rule with the same argument twice", {8: "5000002", 9: "6102 6102"}, "scheme 2 3 3"),
+    ("rule with the same argument three times", {8: "5000003", 9: "6102 6102 6102"}, "scheme 2 3 3"),
     ("rule with 4 arguments given", {8: "5000004", 9: "6102 6102 6102 6102"}, "no 5 8"),
     ("rule with a fourth argument after 3", {8: "5000003", 9: "6102 6102 6102 6102"}, "no 3 12"),
     ("rule position above the children", {7: "501201"}, "no 6 7"),
@@ -336,7 +318,7 @@ HOUSE_EDITS: list[tuple[str, dict[int, str], str]] = [
     ("argument position 7 of a defined place", {9: "6701"}, "no 5 9"),
     ("second argument defined", {8: "5000002", 9: "6102 6101"}, "no 7 10"),
     ("third argument absent", {8: "5000003", 9: "6102 6102 6202"}, "no 6 11"),
-    ("argument from the left for the left", {19: "6001"}, "plan KSC"),
+    ("argument from the left for the left", {19: "6001"}, "scheme 2 3 3"),
     ("argument from the child for its own visit", {17: "6102"}, "no 16 1 0"),
     # EVAL
     ("EVAL with its highest stray bit", {10: "7008"}, "no 5 10"),
@@ -427,13 +409,13 @@ HOUSE_EDITS: list[tuple[str, dict[int, str], str]] = [
 ]
 
 TWICE_EDITS: list[tuple[str, dict[int, str], str]] = [
-    ("nothing changed", {}, "plan CCCC"),
+    ("nothing changed", {}, "scheme 2 4 2"),
     ("argument of visit 2 in section 1", {18: "6001"}, "no 16 1 0"),
     ("evaluations exchanged", {22: "701", 24: "7"}, "no 16 1 0"),
     ("second argument of visit 2 in section 1", {23: "701", 24: "91"}, "no 16 1 1"),
-    ("synthesized of visit 2 in section 1", {21: "6", 23: "701", 24: "91"}, "plan CCCC"),
-    ("synthesized of visit 2 first of all", {21: "6", 22: "701", 23: "7", 24: "91"}, "plan CCCC"),
-    ("argument of visit 1 in section 2", {21: "6"}, "plan CCCC"),
+    ("synthesized of visit 2 in section 1", {21: "6", 23: "701", 24: "91"}, "scheme 2 4 2"),
+    ("synthesized of visit 2 first of all", {21: "6", 22: "701", 23: "7", 24: "91"}, "scheme 2 4 2"),
+    ("argument of visit 1 in section 2", {21: "6"}, "scheme 2 4 2"),
     ("synthesized of visit 1 in section 2", {22: "91", 23: "7"}, "no 16 1 0"),
     ("evaluated after the last LEAVE", {24: "92", 25: "701"}, "no 15 1"),
     ("LEAVE 2 1", {23: "92", 25: "91"}, "no 15 1"),
@@ -455,8 +437,8 @@ TWICE_EDITS: list[tuple[str, dict[int, str], str]] = [
     ("VISIT 1 before its inherited one", {11: "811", 12: "7"}, "no 16 0 0"),
     ("evaluated before the VISIT it needs", {12: "701", 13: "811"}, "no 16 0 1"),
     ("argument of the coming VISIT", {10: "6103"}, "no 16 0 2"),
-    ("inherited of visit 2 before VISIT 1", {9: "500101", 10: "", 12: "701", 13: "811"}, "plan CCCC"),
-    ("inherited of visit 2 first of all", {9: "500101", 10: "", 11: "701", 12: "7", 13: "811"}, "plan CCCC"),
+    ("inherited of visit 2 before VISIT 1", {9: "500101", 10: "", 12: "701", 13: "811"}, "scheme 2 4 2"),
+    ("inherited of visit 2 first of all", {9: "500101", 10: "", 11: "701", 12: "7", 13: "811"}, "scheme 2 4 2"),
     ("symbol with one visit", {1: "11"}, "no 6 3"),
     ("symbol with three visits", {1: "13"}, "no 15 0"),
     ("inherited turned to visit 1", {3: "201"}, "no 16 0 1"),
@@ -477,21 +459,21 @@ TWICE_EDITS: list[tuple[str, dict[int, str], str]] = [
 ]
 
 FOUR_EDITS: list[tuple[str, dict[int, str], str]] = [
-    ("nothing changed", {}, "plan CCCCCCCC"),
+    ("nothing changed", {}, "scheme 2 8 2"),
     ("visit 2 used in section 1", {30: "6001"}, "no 16 1 0"),
     ("visit 4 used in section 1", {30: "6003"}, "no 16 1 0"),
     ("visit 3 used in section 2", {32: "6002"}, "no 16 1 2"),
     ("visit 4 used in section 2", {32: "6003"}, "no 16 1 2"),
     ("visit 4 used in section 3", {34: "6003"}, "no 16 1 4"),
-    ("visit 1 used in section 4", {36: "6"}, "plan CCCCCCCC"),
-    ("visits 1 to 3 used in section 4", {35: "5000073", 36: "6 6001 6002"}, "plan CCCCCCCC"),
+    ("visit 1 used in section 4", {36: "6"}, "scheme 2 8 2"),
+    ("visits 1 to 3 used in section 4", {35: "5000073", 36: "6 6001 6002"}, "scheme 2 8 2"),
     ("third argument of visit 4 in section 3", {33: "5000063", 34: "6 6001 6003"}, "no 16 1 4"),
     ("second argument of visit 4 in section 3", {33: "5000063", 34: "6 6003 6001"}, "no 16 1 4"),
     ("child's visit 2 used before it", {14: "6105"}, "no 16 0 2"),
     ("child's visit 3 used before it", {16: "6106"}, "no 16 0 4"),
     ("child's visit 4 used before it", {18: "6107"}, "no 16 0 6"),
     ("child's visit 4 used before all", {14: "6107"}, "no 16 0 2"),
-    ("child's visit 1 used for visit 4", {18: "6104"}, "plan CCCCCCCC"),
+    ("child's visit 1 used for visit 4", {18: "6104"}, "scheme 2 8 2"),
     ("third argument of the child not known", {17: "5001033", 18: "6104 6105 6107"}, "no 16 0 6"),
     ("LEAVE 1 before its EVAL", {37: "91", 38: "7"}, "no 16 1 0"),
     ("LEAVE 2 before its EVAL", {39: "92", 40: "701"}, "no 16 1 2"),
@@ -522,19 +504,19 @@ FOUR_EDITS: list[tuple[str, dict[int, str], str]] = [
 ]
 
 SIX_EDITS: list[tuple[str, dict[int, str], str]] = [
-    ("nothing changed", {}, "plan KKS"),
+    ("nothing changed", {}, "scheme 2 3 2"),
     ("child 6 not visited", {33: ""}, "no 15 0"),
     ("child 6 visited twice", {33: "861 861"}, "no 15 0"),
     ("child 5 visited for 6", {33: "851"}, "no 15 0"),
     ("child 1 not visited", {28: ""}, "no 15 0"),
     ("child 6 visited before its inherited one", {27: "861", 33: "705"}, "no 16 0 5"),
-    ("child 6 evaluated at its visit", {27: "811", 28: "821", 29: "831", 30: "841", 31: "851", 32: "705"}, "plan KKS"),
+    ("child 6 evaluated at its visit", {27: "811", 28: "821", 29: "831", 30: "841", 31: "851", 32: "705"}, "scheme 2 3 2"),
     ("third argument not visited", {33: "706", 34: "861"}, "no 16 0 11"),
     ("second argument not visited", {31: "851", 32: "861", 33: "706", 34: "841"}, "no 16 0 11"),
     ("first argument not visited", {28: "821", 29: "831", 30: "841", 31: "851", 32: "861", 33: "706", 34: "811"}, "no 16 0 11"),
-    ("children visited the other way", {28: "861", 29: "851", 30: "841", 31: "831", 32: "821", 33: "811"}, "plan KSS"),
+    ("children visited the other way", {28: "861", 29: "851", 30: "841", 31: "831", 32: "821", 33: "811"}, "scheme 2 3 2"),
     ("no rule for child 6", {17: "500501"}, "no 13 0"),
-    ("rules the other way", {12: "500601", 17: "500101"}, "plan KKS"),
+    ("rules the other way", {12: "500601", 17: "500101"}, "scheme 2 3 2"),
     ("rule position 7", {17: "500701"}, "no 5 17"),
     ("argument position 7", {21: "6702"}, "no 5 21"),
     ("count 5 and six children", {5: "3005"}, "no 3 11"),
@@ -582,17 +564,16 @@ WHOLE: list[tuple[str, str, str]] = [
     ("out of reach and rules missing", "11 211 11 3 91 301 91 F", "no 12 1"),
     ("out of reach with broken steps", "11 11 3 91 301 91 91 F", "no 12 1"),
     # granted
-    ("a fork", FORK, "plan KS"),
-    ("a chain", "11 11 11 3001 401 811 91 3011 402 811 91 302 91 F", "plan "),
-    ("a chain from its end", "11 11 11 302 91 3011 402 811 91 3001 401 811 91 F", "plan "),
-    ("finite in its second production", "11 11 3001 401 811 91 3011 401 811 91 301 91 F", "plan "),
-    ("reached by a second production", "11 11 11 3 91 3001 402 811 91 3021 401 811 91 301 91 F", "plan "),
-    ("the same production twice", "11 3 91 3 91 F", "plan "),
-    ("four visits", "11 14 3001 401 811 812 813 814 91 301 91 92 93 94 F", "plan "),
-    ("two children by turns", "11 12 3002 401 401 821 811 822 812 91 301 91 92 F", "plan "),
+    ("a chain", "11 11 11 3001 401 811 91 3011 402 811 91 302 91 F", "scheme 3 0 3"),
+    ("a chain from its end", "11 11 11 302 91 3011 402 811 91 3001 401 811 91 F", "scheme 3 0 3"),
+    ("finite in its second production", "11 11 3001 401 811 91 3011 401 811 91 301 91 F", "scheme 2 0 3"),
+    ("reached by a second production", "11 11 11 3 91 3001 402 811 91 3021 401 811 91 301 91 F", "scheme 3 0 4"),
+    ("the same production twice", "11 3 91 3 91 F", "scheme 1 0 2"),
+    ("four visits", "11 14 3001 401 811 812 813 814 91 301 91 92 93 94 F", "scheme 2 0 2"),
+    ("two children by turns", "11 12 3002 401 401 821 811 822 812 91 301 91 92 F", "scheme 2 0 2"),
     ("two children, one out of turn", "11 12 3002 401 401 821 812 822 811 91 301 91 92 F", "no 15 0"),
-    ("visits in the second section", "11 12 3001 401 811 812 91 3011 401 91 811 812 92 301 91 92 F", "plan "),
-    ("visits across the sections", "11 12 3001 401 811 812 91 3011 401 811 91 812 92 301 91 92 F", "plan "),
+    ("visits in the second section", "11 12 3001 401 811 812 91 3011 401 91 811 812 92 301 91 92 F", "scheme 2 0 3"),
+    ("visits across the sections", "11 12 3001 401 811 812 91 3011 401 811 91 812 92 301 91 92 F", "scheme 2 0 3"),
     # 15
     ("no VISIT in the last production", "11 11 3001 401 811 91 301 91 3011 401 91 F", "no 15 2"),
     ("LEAVE twice", "11 3 91 91 F", "no 15 0"),
@@ -615,10 +596,10 @@ WHOLE: list[tuple[str, str, str]] = [
 DAMAGED: list[tuple[str, str]] = [
     ("11 911 211 211 211 211 211 3 500002 503 507001 5AC004 500003 7 702 704 703 91 701 91 F", "no 3 1"),
     ("11 211 211 11 211 3015 401 401 401 401 401 500002 7 821 841 811 851 91 831 F", "no 11 0"),
-    ("11 211 211 3 502001 504 701 7 91 F", "plan KK"),
+    ("11 211 211 3 502001 504 701 7 91 F", "scheme 1 2 1"),
     ("13 12 11 301 91 92 3002 402 401 821 822 811 91 3021 401 811 812 91 F", "no 10 0"),
-    ("11 211 211 3 59D 5F9001 701 7 91 F", "plan KK"),
-    ("11 11 11 3021 401 811 91 301 91 3013 401 402 401 821 831 811 91 3001 401 811 91 3001 402 811 91 F", "plan "),
+    ("11 211 211 3 59D 5F9001 701 7 91 F", "scheme 1 2 1"),
+    ("11 11 11 3021 401 811 91 301 91 3013 401 402 401 821 831 811 91 3001 401 811 91 3001 402 811 91 F", "scheme 3 0 5"),
     ("11 211 211 14 201 301 92 91 93 94 3001 401 505 502102 503001 701 811 812 7 702 813 814 91 F", "no 15 0"),
     ("11 211 211 3 3 504 565001 701 7 91 3", "no 3 4"),
     ("11 211 211 211 211 3 506002 50E 505001 503003 7 702 701 703 91 3 5 5AD002 5 50D003 703 701 7 702 91 F", "no 13 1"),
@@ -660,7 +641,7 @@ def limit_edges() -> list[Edge]:
     leaves = LONG_LEAF * 62
     long_steps_broken = [*LONG_STEPS[:57], "71F", "864", "94"]
     table = [
-        ("32 symbols", chain(32), "plan "),
+        ("32 symbols", chain(32), "scheme 32 0 32"),
         ("33 symbols", chain(33), "no 4 32"),
         ("33rd symbol with 0 visits", ["11"] * 32 + ["1"], "no 4 32"),
         ("33rd symbol with a stray bit", ["11"] * 32 + ["11000001"], "no 4 32"),
@@ -672,13 +653,13 @@ def limit_edges() -> list[Edge]:
         ("left symbol 32 of 32", ["11"] * 32 + ["320", "91", "F"], "no 6 32"),
         ("left symbol 31 of 32", ["11"] * 32 + ["31F", "91", "F"], "no 11 0"),
         ("child symbol 32 of 32", ["11"] * 32 + ["3001", "420"], "no 6 33"),
-        ("16 attributes", ["11"] + ["211"] * 16 + ["3"] + RULES_32[:16] + EVALS_32[:16] + ["91", "F"], "plan " + "K" * 16),
+        ("16 attributes", ["11"] + ["211"] * 16 + ["3"] + RULES_32[:16] + EVALS_32[:16] + ["91", "F"], "scheme 1 16 1"),
         ("17 attributes", ["11"] + ["211"] * 17 + ["3", "91", "F"], "no 4 17"),
         ("17th attribute of side 2", ["11"] + ["211"] * 16 + ["221"], "no 4 17"),
         ("17th attribute of visit 2 of 1", ["11"] + ["211"] * 16 + ["212"], "no 4 17"),
         ("17th attribute of a second symbol", ["11", "11"] + ["211"] * 17, "no 4 18"),
         ("16 and 16 attributes", ["11"] + ["211"] * 16 + ["11"] + ["211"] * 16, "no 3 34"),
-        ("128 attributes", many_attributes([]), "plan " + "K" * 16 + "C" * 112),
+        ("128 attributes", many_attributes([]), "scheme 8 128 8"),
         ("128 attributes and a symbol", many_attributes(["11"]), "no 11 8"),
         ("129 attributes", many_attributes(["11", "211"]), "no 4 137"),
         ("129th attribute of visit 0", many_attributes(["11", "21"]), "no 4 137"),
@@ -686,7 +667,7 @@ def limit_edges() -> list[Edge]:
         ("129th attribute by fours", (["11"] + ["211"] * 4) * 32 + ["211"], "no 4 160"),
         ("128 attributes by fours", (["11"] + ["211"] * 4) * 32 + ["3", "91", "F"], "no 11 1"),
         ("rule attribute 127 of 128", many_attributes([])[:136] + ["307", "50007F", "7", "91", "F"], "no 11 0"),
-        ("64 productions", ["11"] + ["3", "91"] * 64 + ["F"], "plan "),
+        ("64 productions", ["11"] + ["3", "91"] * 64 + ["F"], "scheme 1 0 64"),
         ("65 productions", ["11"] + ["3", "91"] * 65 + ["F"], "no 4 129"),
         ("65th production with child count 7", ["11"] + ["3", "91"] * 64 + ["3007"], "no 4 129"),
         ("65th production of an absent symbol", ["11"] + ["3", "91"] * 64 + ["3FF"], "no 4 129"),
@@ -696,7 +677,7 @@ def limit_edges() -> list[Edge]:
         ("fault 15 in the 64th production", ["11"] + ["3", "91"] * 64 + ["91", "F"], "no 15 63"),
         ("fault 13 in the 64th production", ["11", "211"] + ["3", "5", "7", "91"] * 63 + ["3", "91", "F"], "no 13 63"),
         ("fault 14 in the 64th production", ["11", "211"] + ["3", "5", "7", "91"] * 63 + ["3", "5", "91", "F"], "no 14 63"),
-        ("32 rules", [*rules, *EVALS_32, *RULES_TAIL], "plan " + "K" * 16 + "C" * 16),
+        ("32 rules", [*rules, *EVALS_32, *RULES_TAIL], "scheme 2 32 2"),
         ("33 rules", [*rules, "5", *EVALS_32, *RULES_TAIL], "no 4 68"),
         ("33rd rule at position 7", [*rules, "5007"], "no 4 68"),
         ("33rd rule for a used place", [*rules, "500110"], "no 4 68"),
@@ -722,8 +703,8 @@ def limit_edges() -> list[Edge]:
         ("65th step in the second", ["11"] + ["3", "91"] + ["3"] + ["91"] * 65 + ["F"], "no 4 68"),
         ("64 VISITs", ["11", "11", "3001", "401"] + ["811"] * 64 + ["301", "91", "F"], "no 15 0"),
         ("65 VISITs", ["11", "11", "3001", "401"] + ["811"] * 65, "no 4 68"),
-        ("60 steps", [*LONG_HEAD, *LONG_LEAF, *LONG_RULES, *LONG_STEPS, "F"], "plan KKKKKSS"),
-        ("60 steps in the 64th", [*LONG_HEAD, *leaves, *LONG_RULES, *LONG_STEPS, "F"], "plan KKKKKSS"),
+        ("60 steps", [*LONG_HEAD, *LONG_LEAF, *LONG_RULES, *LONG_STEPS, "F"], "scheme 2 7 3"),
+        ("60 steps in the 64th", [*LONG_HEAD, *leaves, *LONG_RULES, *LONG_STEPS, "F"], "scheme 2 7 64"),
         ("last step that can be broken", [*LONG_HEAD, *LONG_LEAF, *LONG_RULES, *long_steps_broken, "F"], "no 16 2 57"),
         ("the same in the 64th", [*LONG_HEAD, *leaves, *LONG_RULES, *long_steps_broken, "F"], "no 16 63 57"),
         ("61 steps", [*LONG_HEAD, *LONG_LEAF, *LONG_RULES, *LONG_STEPS, "94", "F"], "no 15 2"),
@@ -743,10 +724,6 @@ def edges() -> list[Edge]:
     ):
         found += [Edge(f"{title}: {name}", edited(tokens, e), line) for name, e, line in edits]
     found += [Edge(name, scheme(text), line) for name, text, line in WHOLE]
-    found += [
-        Edge(f"{title} ({reason})", to_bytes(written(text).words()), f"plan {letters}")
-        for title, text, letters, reason in PLANS
-    ]
     found += [
         Edge(f"damaged {number}", scheme(text), line) for number, (text, line) in enumerate(DAMAGED)
     ]

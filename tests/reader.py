@@ -1,8 +1,9 @@
-"""Reads a scheme.
+"""Reads a scheme and gives the line that the program under test must print.
 
-A scheme is a sequence of 32-bit words, high byte first.  `check` takes the
-bytes of a scheme and gives the scheme that they say, or raises the first
-`Refusal`, with the numbers of what it names; its line is `no N names..`.
+A scheme is a sequence of 32-bit words, high byte first.  `judge` takes the
+bytes of a scheme and answers either `scheme S A P` (how many symbols,
+attributes and productions there are) or `no N names..` (the first refusal,
+with the numbers of what it names).
 """
 
 from __future__ import annotations
@@ -441,3 +442,13 @@ def check(data: bytes) -> Scheme:
     for number in range(len(scheme.productions)):
         check_production(scheme, number)
     return scheme
+
+
+def judge(data: bytes) -> str:
+    """The line for a scheme of these bytes (no file is the same as no bytes)."""
+    try:
+        scheme = check(data)
+    except Refusal as refusal:
+        return refusal.line()
+    counts = len(scheme.symbols), len(scheme.attributes), len(scheme.productions)
+    return "scheme {} {} {}".format(*counts)

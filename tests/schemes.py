@@ -1,8 +1,8 @@
 """Makes schemes from seeds: lawful ones, damaged ones, and one large one.
 
 Everything random comes from the `random.Random` that is handed in, so a seed
-always gives the same scheme.  A scheme is first built as a `Sketch`, whose parts
-point at each other; numbers come only when the sketch is turned into words.  So
+always gives the same scheme.  A scheme is first built as a `Plan`, whose parts
+point at each other; numbers come only when the plan is turned into words.  So
 parts can be put in or taken out without renumbering by hand.
 """
 
@@ -17,7 +17,7 @@ MAX_WORDS = 4096
 END_WORD = 0xF0000000
 
 
-# ----------------------------------------------------------------- sketches
+# -------------------------------------------------------------------- plans
 # Parts are compared by identity: two equal attributes are still two.
 
 
@@ -87,9 +87,14 @@ class Prod:
 
 
 @dataclass(eq=False)
-class Sketch:
+class Plan:
     syms: list[Sym] = field(default_factory=list)
     prods: list[Prod] = field(default_factory=list)
+
+    def line(self) -> str:
+        """The line for this plan if it is lawful."""
+        attrs = sum(len(s.attrs) for s in self.syms)
+        return f"scheme {len(self.syms)} {attrs} {len(self.prods)}"
 
     def words(self) -> list[int]:
         words: list[int] = []
@@ -256,23 +261,23 @@ def add_rules_and_steps(rng: Random, prod: Prod) -> None:
             known += newly_known(0, section)
 
 
-def lawful(rng: Random) -> Sketch:
+def lawful(rng: Random) -> Plan:
     while True:
-        sketch = Sketch(make_syms(rng))
-        sketch.prods = make_bare_prods(rng, sketch.syms)
-        for prod in sketch.prods:
+        plan = Plan(make_syms(rng))
+        plan.prods = make_bare_prods(rng, plan.syms)
+        for prod in plan.prods:
             add_rules_and_steps(rng, prod)
-        if len(sketch.words()) <= MAX_WORDS:
-            return sketch
+        if len(plan.words()) <= MAX_WORDS:
+            return plan
 
 
 # ------------------------------------------------- damage to the parts
-# Each takes the random source and a sketch, and changes the sketch in place.
-# A sketch that gives no room for the change is left as it is.
+# Each takes the random source and a plan, and changes the plan in place.
+# A plan that gives no room for the change is left as it is.
 
 
-def any_prod(rng: Random, sketch: Sketch, suits: Callable[[Prod], object]) -> Optional[Prod]:
-    fit = [p for p in sketch.prods if suits(p)]
+def any_prod(rng: Random, plan: Plan, suits: Callable[[Prod], object]) -> Optional[Prod]:
+    fit = [p for p in plan.prods if suits(p)]
     return rng.choice(fit) if fit else None
 
 
@@ -280,76 +285,76 @@ def steps_of(prod: Prod, kind: type) -> list[int]:
     return [i for i, step in enumerate(prod.steps) if isinstance(step, kind)]
 
 
-def visit_start_more(rng: Random, sketch: Sketch) -> None:
-    sketch.syms[0].visits = rng.randint(2, 4)
+def visit_start_more(rng: Random, plan: Plan) -> None:
+    plan.syms[0].visits = rng.randint(2, 4)
 
 
-def inherit_at_start(rng: Random, sketch: Sketch) -> None:
-    attrs = sketch.syms[0].attrs
+def inherit_at_start(rng: Random, plan: Plan) -> None:
+    attrs = plan.syms[0].attrs
     if len(attrs) < 16:
         attrs.insert(rng.randint(0, len(attrs)), Attr(False, 1))
 
 
-def start_as_child(rng: Random, sketch: Sketch) -> None:
-    prod = any_prod(rng, sketch, lambda p: len(p.children) < 6)
+def start_as_child(rng: Random, plan: Plan) -> None:
+    prod = any_prod(rng, plan, lambda p: len(p.children) < 6)
     if prod:
-        prod.children.append(sketch.syms[0])
+        prod.children.append(plan.syms[0])
         prod.steps.insert(rng.randrange(len(prod.steps)), Visit(len(prod.children), 1))
 
 
-def drop_productions_of_symbol(rng: Random, sketch: Sketch) -> None:
-    sym = rng.choice(sketch.syms)
-    kept = [p for p in sketch.prods if p.left is not sym]
+def drop_productions_of_symbol(rng: Random, plan: Plan) -> None:
+    sym = rng.choice(plan.syms)
+    kept = [p for p in plan.prods if p.left is not sym]
     if kept:
-        sketch.prods = kept
+        plan.prods = kept
 
 
-def make_endless(rng: Random, sketch: Sketch) -> None:
+def make_endless(rng: Random, plan: Plan) -> None:
     """Every production of a symbol gets a child that needs the symbol again."""
-    if len(sketch.syms) > 1:
-        sym = rng.choice(sketch.syms[1:])
-        for prod in sketch.prods:
+    if len(plan.syms) > 1:
+        sym = rng.choice(plan.syms[1:])
+        for prod in plan.prods:
             if prod.left is sym and sym not in prod.children and len(prod.children) < 6:
                 prod.children.append(sym)
 
 
-def drop_childless_productions(rng: Random, sketch: Sketch) -> None:
-    kept = [p for p in sketch.prods if p.children]
+def drop_childless_productions(rng: Random, plan: Plan) -> None:
+    kept = [p for p in plan.prods if p.children]
     if kept:
-        sketch.prods = kept
+        plan.prods = kept
 
 
-def add_symbols_without_productions(rng: Random, sketch: Sketch) -> None:
+def add_symbols_without_productions(rng: Random, plan: Plan) -> None:
     for _ in range(rng.choice([1, 1, 2])):
-        if len(sketch.syms) < 32:
-            sketch.syms.insert(rng.randint(1, len(sketch.syms)), Sym(rng.randint(1, 4)))
+        if len(plan.syms) < 32:
+            plan.syms.insert(rng.randint(1, len(plan.syms)), Sym(rng.randint(1, 4)))
 
 
-def add_unreached_symbols(rng: Random, sketch: Sketch) -> None:
+def add_unreached_symbols(rng: Random, plan: Plan) -> None:
     """New symbols that derive a tree, but that no reached production has."""
     new: list[Sym] = []
     for _ in range(rng.randint(1, 3)):
-        if len(sketch.syms) < 32 and len(sketch.prods) < 63:
+        if len(plan.syms) < 32 and len(plan.prods) < 63:
             sym = Sym(rng.randint(1, 4))
             new.append(sym)
-            sketch.syms.insert(rng.randint(1, len(sketch.syms)), sym)
+            plan.syms.insert(rng.randint(1, len(plan.syms)), sym)
             leave_all: list[Step] = [Leave(v + 1) for v in range(sym.visits)]
-            sketch.prods.insert(rng.randint(0, len(sketch.prods)), Prod(sym, steps=leave_all))
+            plan.prods.insert(rng.randint(0, len(plan.prods)), Prod(sym, steps=leave_all))
             if rng.random() < 0.5:
                 child = rng.choice(new)
                 visits: list[Step] = [Visit(1, v + 1) for v in range(child.visits)]
-                sketch.prods.append(Prod(sym, [child], steps=visits + leave_all))
+                plan.prods.append(Prod(sym, [child], steps=visits + leave_all))
 
 
-def drop_rule(rng: Random, sketch: Sketch) -> None:
-    prod = any_prod(rng, sketch, lambda p: p.rules)
+def drop_rule(rng: Random, plan: Plan) -> None:
+    prod = any_prod(rng, plan, lambda p: p.rules)
     if prod:
         rule = prod.rules.pop(rng.randrange(len(prod.rules)))
         prod.steps = [s for s in prod.steps if not (isinstance(s, Eval) and s.rule is rule)]
 
 
-def repeat_rule(rng: Random, sketch: Sketch) -> None:
-    prod = any_prod(rng, sketch, lambda p: 0 < len(p.rules) < 32)
+def repeat_rule(rng: Random, plan: Plan) -> None:
+    prod = any_prod(rng, plan, lambda p: 0 < len(p.rules) < 32)
     if prod:
         old = rng.choice(prod.rules)
         new = Rule(old.target, list(old.arguments), old.number)
@@ -358,31 +363,31 @@ def repeat_rule(rng: Random, sketch: Sketch) -> None:
             prod.steps.insert(rng.randrange(len(prod.steps)), Eval(new))
 
 
-def retarget_rule(rng: Random, sketch: Sketch) -> None:
-    prod = any_prod(rng, sketch, lambda p: p.rules and p.places(defined=True))
+def retarget_rule(rng: Random, plan: Plan) -> None:
+    prod = any_prod(rng, plan, lambda p: p.rules and p.places(defined=True))
     if prod:
         rng.choice(prod.rules).target = rng.choice(prod.places(defined=True))
 
 
-def swap_targets(rng: Random, sketch: Sketch) -> None:
-    prod = any_prod(rng, sketch, lambda p: len(p.rules) > 1)
+def swap_targets(rng: Random, plan: Plan) -> None:
+    prod = any_prod(rng, plan, lambda p: len(p.rules) > 1)
     if prod:
         one, two = rng.sample(prod.rules, 2)
         one.target, two.target = two.target, one.target
 
 
-def drop_step(kind: type) -> Callable[[Random, Sketch], None]:
-    def drop(rng: Random, sketch: Sketch) -> None:
-        prod = any_prod(rng, sketch, lambda p: len(p.steps) > 1 and steps_of(p, kind))
+def drop_step(kind: type) -> Callable[[Random, Plan], None]:
+    def drop(rng: Random, plan: Plan) -> None:
+        prod = any_prod(rng, plan, lambda p: len(p.steps) > 1 and steps_of(p, kind))
         if prod:
             del prod.steps[rng.choice(steps_of(prod, kind))]
 
     return drop
 
 
-def repeat_step(kind: type) -> Callable[[Random, Sketch], None]:
-    def repeat(rng: Random, sketch: Sketch) -> None:
-        prod = any_prod(rng, sketch, lambda p: len(p.steps) < 64 and steps_of(p, kind))
+def repeat_step(kind: type) -> Callable[[Random, Plan], None]:
+    def repeat(rng: Random, plan: Plan) -> None:
+        prod = any_prod(rng, plan, lambda p: len(p.steps) < 64 and steps_of(p, kind))
         if prod:
             step = prod.steps[rng.choice(steps_of(prod, kind))]
             prod.steps.insert(rng.randint(0, len(prod.steps)), step)
@@ -390,9 +395,9 @@ def repeat_step(kind: type) -> Callable[[Random, Sketch], None]:
     return repeat
 
 
-def swap_steps(kind: type) -> Callable[[Random, Sketch], None]:
-    def swap(rng: Random, sketch: Sketch) -> None:
-        prod = any_prod(rng, sketch, lambda p: len(steps_of(p, kind)) > 1)
+def swap_steps(kind: type) -> Callable[[Random, Plan], None]:
+    def swap(rng: Random, plan: Plan) -> None:
+        prod = any_prod(rng, plan, lambda p: len(steps_of(p, kind)) > 1)
         if prod:
             i, j = rng.sample(steps_of(prod, kind), 2)
             prod.steps[i], prod.steps[j] = prod.steps[j], prod.steps[i]
@@ -400,58 +405,58 @@ def swap_steps(kind: type) -> Callable[[Random, Sketch], None]:
     return swap
 
 
-def eval_another_rule(rng: Random, sketch: Sketch) -> None:
-    prod = any_prod(rng, sketch, lambda p: p.rules and steps_of(p, Eval))
+def eval_another_rule(rng: Random, plan: Plan) -> None:
+    prod = any_prod(rng, plan, lambda p: p.rules and steps_of(p, Eval))
     if prod:
         prod.steps[rng.choice(steps_of(prod, Eval))] = Eval(rng.choice(prod.rules))
 
 
-def renumber_visit(rng: Random, sketch: Sketch) -> None:
-    prod = any_prod(rng, sketch, lambda p: steps_of(p, Visit))
+def renumber_visit(rng: Random, plan: Plan) -> None:
+    prod = any_prod(rng, plan, lambda p: steps_of(p, Visit))
     if prod:
         child = rng.randint(1, len(prod.children))
         new = Visit(child, rng.randint(1, prod.at(child).visits))
         prod.steps[rng.choice(steps_of(prod, Visit))] = new
 
 
-def end_with_another_step(rng: Random, sketch: Sketch) -> None:
-    prod = any_prod(rng, sketch, lambda p: len(p.steps) > 1)
+def end_with_another_step(rng: Random, plan: Plan) -> None:
+    prod = any_prod(rng, plan, lambda p: len(p.steps) > 1)
     if prod:
         prod.steps.insert(rng.randrange(len(prod.steps) - 1), prod.steps.pop())
 
 
-def swap_neighbours(rng: Random, sketch: Sketch) -> None:
-    prod = any_prod(rng, sketch, lambda p: len(p.steps) > 2)
+def swap_neighbours(rng: Random, plan: Plan) -> None:
+    prod = any_prod(rng, plan, lambda p: len(p.steps) > 2)
     if prod:
         i = rng.randrange(len(prod.steps) - 2)
         prod.steps[i], prod.steps[i + 1] = prod.steps[i + 1], prod.steps[i]
 
 
-def move_eval(rng: Random, sketch: Sketch) -> None:
-    prod = any_prod(rng, sketch, lambda p: len(p.steps) > 1 and steps_of(p, Eval))
+def move_eval(rng: Random, plan: Plan) -> None:
+    prod = any_prod(rng, plan, lambda p: len(p.steps) > 1 and steps_of(p, Eval))
     if prod:
         step = prod.steps.pop(rng.choice(steps_of(prod, Eval)))
         prod.steps.insert(rng.randrange(len(prod.steps)), step)
 
 
-def eval_last(rng: Random, sketch: Sketch) -> None:
+def eval_last(rng: Random, plan: Plan) -> None:
     """A rule is evaluated just before the last step."""
-    prod = any_prod(rng, sketch, lambda p: len(p.steps) > 1 and steps_of(p, Eval))
+    prod = any_prod(rng, plan, lambda p: len(p.steps) > 1 and steps_of(p, Eval))
     if prod:
         step = prod.steps.pop(rng.choice(steps_of(prod, Eval)))
         prod.steps.insert(len(prod.steps) - 1, step)
 
 
-def move_visit(rng: Random, sketch: Sketch) -> None:
-    prod = any_prod(rng, sketch, lambda p: len(p.steps) > 1 and steps_of(p, Visit))
+def move_visit(rng: Random, plan: Plan) -> None:
+    prod = any_prod(rng, plan, lambda p: len(p.steps) > 1 and steps_of(p, Visit))
     if prod:
         step = prod.steps.pop(rng.choice(steps_of(prod, Visit)))
         prod.steps.insert(rng.randrange(len(prod.steps)), step)
 
 
-def mix_steps(rng: Random, sketch: Sketch) -> None:
+def mix_steps(rng: Random, plan: Plan) -> None:
     """Visits of a child and leaves keep their order, all else is mixed."""
-    prod = any_prod(rng, sketch, lambda p: p.rules and len(p.steps) > 2)
+    prod = any_prod(rng, plan, lambda p: p.rules and len(p.steps) > 2)
     if prod:
         last = prod.steps.pop()
         lanes: dict[object, list[Step]] = {}
@@ -463,9 +468,9 @@ def mix_steps(rng: Random, sketch: Sketch) -> None:
         prod.steps = [lanes[lane].pop(0) for lane in order] + [last]
 
 
-def use_late_place(rng: Random, sketch: Sketch) -> None:
+def use_late_place(rng: Random, plan: Plan) -> None:
     """The rule evaluated first uses what is known last."""
-    prod = any_prod(rng, sketch, lambda p: steps_of(p, Eval) and p.places(defined=False))
+    prod = any_prod(rng, plan, lambda p: steps_of(p, Eval) and p.places(defined=False))
     if prod:
         rule = next(s.rule for s in prod.steps if isinstance(s, Eval))
         rule.arguments = rule.arguments[:2]
@@ -473,9 +478,9 @@ def use_late_place(rng: Random, sketch: Sketch) -> None:
         rule.arguments.insert(rng.randint(0, len(rule.arguments)), late)
 
 
-def use_place_too_early(rng: Random, sketch: Sketch) -> None:
+def use_place_too_early(rng: Random, plan: Plan) -> None:
     """A rule gets, as its last argument, what becomes known soonest after it."""
-    prod = any_prod(rng, sketch, lambda p: steps_of(p, Eval) and p.places(defined=False))
+    prod = any_prod(rng, plan, lambda p: steps_of(p, Eval) and p.places(defined=False))
     if prod:
         at = rng.choice(steps_of(prod, Eval))
         rule = prod.steps[at].rule
@@ -498,8 +503,8 @@ def use_place_too_early(rng: Random, sketch: Sketch) -> None:
             rule.arguments = rule.arguments[:2] + [rng.choice(coming[:3])]
 
 
-def change_argument(rng: Random, sketch: Sketch) -> None:
-    prod = any_prod(rng, sketch, lambda p: p.rules and p.places(defined=False))
+def change_argument(rng: Random, plan: Plan) -> None:
+    prod = any_prod(rng, plan, lambda p: p.rules and p.places(defined=False))
     if prod:
         place = rng.choice(prod.places(defined=False))
         rule = rng.choice(prod.rules)
@@ -508,64 +513,64 @@ def change_argument(rng: Random, sketch: Sketch) -> None:
         rule.arguments.append(place)
 
 
-def change_attribute_visit(rng: Random, sketch: Sketch) -> None:
-    attrs = [(s, a) for s in sketch.syms if s.visits > 1 for a in s.attrs]
+def change_attribute_visit(rng: Random, plan: Plan) -> None:
+    attrs = [(s, a) for s in plan.syms if s.visits > 1 for a in s.attrs]
     if attrs:
         sym, attr = rng.choice(attrs)
         attr.visit = rng.randint(1, sym.visits)
 
 
-def change_symbol_visits(rng: Random, sketch: Sketch) -> None:
-    sym = rng.choice(sketch.syms)
+def change_symbol_visits(rng: Random, plan: Plan) -> None:
+    sym = rng.choice(plan.syms)
     sym.visits = rng.randint(1, 4)
 
 
-def add_attribute(rng: Random, sketch: Sketch) -> None:
-    sym = rng.choice(sketch.syms)
-    if len(sym.attrs) < 16 and sum(len(s.attrs) for s in sketch.syms) < 128:
+def add_attribute(rng: Random, plan: Plan) -> None:
+    sym = rng.choice(plan.syms)
+    if len(sym.attrs) < 16 and sum(len(s.attrs) for s in plan.syms) < 128:
         attr = Attr(rng.random() < 0.5, rng.randint(1, sym.visits))
         sym.attrs.insert(rng.randint(0, len(sym.attrs)), attr)
 
 
-def define_used_place(rng: Random, sketch: Sketch) -> None:
-    prod = any_prod(rng, sketch, lambda p: p.rules and p.places(defined=False))
+def define_used_place(rng: Random, plan: Plan) -> None:
+    prod = any_prod(rng, plan, lambda p: p.rules and p.places(defined=False))
     if prod:
         rng.choice(prod.rules).target = rng.choice(prod.places(defined=False))
 
 
-def use_defined_place(rng: Random, sketch: Sketch) -> None:
-    prod = any_prod(rng, sketch, lambda p: p.rules and p.places(defined=True))
+def use_defined_place(rng: Random, plan: Plan) -> None:
+    prod = any_prod(rng, plan, lambda p: p.rules and p.places(defined=True))
     if prod:
         rule = rng.choice(prod.rules)
         rule.arguments = rule.arguments[:2] + [rng.choice(prod.places(defined=True))]
         rng.shuffle(rule.arguments)
 
 
-def turn_attribute(rng: Random, sketch: Sketch) -> None:
-    attrs = [a for s in sketch.syms for a in s.attrs]
+def turn_attribute(rng: Random, plan: Plan) -> None:
+    attrs = [a for s in plan.syms for a in s.attrs]
     if attrs:
         attr = rng.choice(attrs)
         attr.synthesized = not attr.synthesized
 
 
-def pass_a_limit(rng: Random, sketch: Sketch) -> None:
+def pass_a_limit(rng: Random, plan: Plan) -> None:
     """Up to a limit or one past it."""
     over = rng.choice([0, 1, 1, 1])
     limit = rng.choice(["symbols", "attributes", "all attributes", "productions", "rules", "steps"])
-    prod = rng.choice(sketch.prods)
+    prod = rng.choice(plan.prods)
     if limit == "symbols":
-        sketch.syms += [Sym(1) for _ in range(32 + over - len(sketch.syms))]
+        plan.syms += [Sym(1) for _ in range(32 + over - len(plan.syms))]
     elif limit == "attributes":
-        sym = rng.choice(sketch.syms)
+        sym = rng.choice(plan.syms)
         sym.attrs += [Attr(True, 1) for _ in range(16 + over - len(sym.attrs))]
     elif limit == "all attributes":
-        more = 128 + over - sum(len(s.attrs) for s in sketch.syms)
-        while more > 0 and len(sketch.syms) < 32:
+        more = 128 + over - sum(len(s.attrs) for s in plan.syms)
+        while more > 0 and len(plan.syms) < 32:
             count = min(more, 16)
-            sketch.syms.append(Sym(1, [Attr(rng.random() < 0.5, 1) for _ in range(count)]))
+            plan.syms.append(Sym(1, [Attr(rng.random() < 0.5, 1) for _ in range(count)]))
             more -= count
     elif limit == "productions":
-        sketch.prods += [prod] * (64 + over - len(sketch.prods))
+        plan.prods += [prod] * (64 + over - len(plan.prods))
     elif limit == "rules":
         if prod.rules:
             prod.rules += [Rule(prod.rules[0].target) for _ in range(32 + over - len(prod.rules))]
@@ -698,7 +703,7 @@ def too_long(rng: Random, data: bytes) -> bytes:
 # -------------------------------------------------------- damaged schemes
 
 # How often each damage is taken, by what it is done to.
-PART_DAMAGE: dict[Callable[[Random, Sketch], None], int] = {
+PART_DAMAGE: dict[Callable[[Random, Plan], None], int] = {
     visit_start_more: 2,
     inherit_at_start: 2,
     start_as_child: 3,
@@ -769,12 +774,12 @@ def pick(rng: Random, table: dict) -> Callable:
 
 
 def damaged(rng: Random) -> bytes:
-    sketch = lawful(rng)
+    plan = lawful(rng)
     what = rng.choices(["parts", "words", "bytes", "mixed"], [60, 26, 6, 8])[0]
     if what in ("parts", "mixed"):
         for _ in range(rng.choice([1, 1, 1, 2, 3])):
-            pick(rng, PART_DAMAGE)(rng, sketch)
-    words = sketch.words()
+            pick(rng, PART_DAMAGE)(rng, plan)
+    words = plan.words()
     if what in ("words", "mixed"):
         for _ in range(rng.choice([1, 1, 1, 2, 3])):
             if len(words) > 1:
@@ -790,7 +795,8 @@ def damaged(rng: Random) -> bytes:
 class RandomCase:
     name: str
     data: bytes
-    lawful: Optional[Sketch] = None  # the scheme if it is lawful by how it is made
+    is_lawful: bool
+    line_if_lawful: str = ""
 
 
 def random_case(seed: int, number: int) -> RandomCase:
@@ -798,15 +804,15 @@ def random_case(seed: int, number: int) -> RandomCase:
     rng = Random(seed * 1_000_003 + number)
     name = f"random {seed}/{number}"
     if number % 3 == 0:
-        sketch = lawful(rng)
-        return RandomCase(name, to_bytes(sketch.words()), sketch)
-    return RandomCase(name, damaged(rng))
+        plan = lawful(rng)
+        return RandomCase(name, to_bytes(plan.words()), True, plan.line())
+    return RandomCase(name, damaged(rng), False)
 
 
 # -------------------------------------------------- a scheme of full size
 
 
-def full() -> Sketch:
+def full() -> Plan:
     """A lawful scheme of 4,096 words that asks much of a reader.
 
     It has 32 symbols, 128 attributes and 64 productions.  Eighteen productions
@@ -823,7 +829,7 @@ def full() -> Sketch:
     ]
     giver = Sym(4, [Attr(True, 1 + i % 4) for i in range(16)])
     up, down = [Sym(1) for _ in range(12)], [Sym(1) for _ in range(11)]
-    sketch = Sketch([start, *up, *down, *heavy, giver])
+    plan = Plan([start, *up, *down, *heavy, giver])
 
     def link(left: Sym, *children: Sym) -> Prod:
         steps: list[Step] = [
@@ -872,17 +878,17 @@ def full() -> Sketch:
     first.steps += link(start, *first.children).steps
 
     # Finite trees of `up` are found from the last production to the first.
-    sketch.prods += [link(a, b) for a, b in zip(up, up[1:])]
-    sketch.prods += [large(turn) for turn in range(18)]
-    sketch.prods += [leaf(sym) for sym in (*heavy, giver, up[-1], down[-1])]
+    plan.prods += [link(a, b) for a, b in zip(up, up[1:])]
+    plan.prods += [large(turn) for turn in range(18)]
+    plan.prods += [leaf(sym) for sym in (*heavy, giver, up[-1], down[-1])]
     # Reach of `down` is found from the last production to the first.
-    sketch.prods += [link(a, b) for a, b in zip(down, down[1:])][::-1]
-    sketch.prods += [leaf(down[0]) for _ in range(63 - len(sketch.prods))]
-    sketch.prods.append(first)
+    plan.prods += [link(a, b) for a, b in zip(down, down[1:])][::-1]
+    plan.prods += [leaf(down[0]) for _ in range(63 - len(plan.prods))]
+    plan.prods.append(first)
 
     # What is left of the words is filled with arguments of the leaves.
-    missing = MAX_WORDS - len(sketch.words())
-    for prod in sketch.prods:
+    missing = MAX_WORDS - len(plan.words())
+    for prod in plan.prods:
         if prod.left in heavy and not prod.children:
             for rule in prod.rules:
                 inherited = [a for a in prod.left.attrs if not a.synthesized]
@@ -890,4 +896,4 @@ def full() -> Sketch:
                 while missing and len(rule.arguments) < 3:
                     rule.arguments.append(Place(0, fit[len(rule.arguments) % len(fit)]))
                     missing -= 1
-    return sketch
+    return plan

@@ -1,9 +1,8 @@
 -- The parts of a grammar as the model's records: what each value of the code means.
-use Rattle.std.specs.Prelude.{ℕ, List, map, Some, None, vec_items, Option}
+use Rattle.std.specs.Prelude.{ℕ, map, Some, None, vec_items, Option}
 use Rattle.std.proofs.Math.Option as Plain
 use Rattle.model.specs.Scheme as Model
 use Rattle.grammar.specs.declared.parts.VisitNumber.{VisitNumber}
-use Rattle.grammar.specs.declared.parts.ChildNumber.{ChildNumber}
 use Rattle.grammar.specs.declared.parts.Side.{Side}
 use Rattle.grammar.specs.declared.parts.Side.TheVariants.{Inherited, Synthesized}
 use Rattle.grammar.specs.declared.parts.Attribute.{Attribute}

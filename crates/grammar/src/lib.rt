@@ -1,4 +1,6 @@
 // What a scheme is made of, and why one is refused.
+#![tactic(auto)]
+
 mod parts;
 mod refusal;
 

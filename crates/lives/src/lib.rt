@@ -1,4 +1,6 @@
 // Lives of attributes along a scheme's productions, and whether those of some attributes alternate.
+#![tactic(auto)]
+
 mod alternation;
 mod event;
 mod head;

@@ -1,7 +1,7 @@
 -- The form of a scheme: what its words can say at all, whatever they say. Reading a scheme from its words gives it. Assumes nothing.
 use Rattle.std.specs.Prelude.{◌≡◌, ℕ, suc, ◌≤◌, length, nat_eq}
 use Rattle.model.specs.Lists.{Has, count}
-use Rattle.model.specs.Scheme.{Attribute, Occurrence, Rule, Step, eval, visit, leave, Production, Scheme}
+use Rattle.model.specs.Scheme.{Attribute, Occurrence, Rule, eval, visit, leave, Production, Scheme}
 use Rattle.model.specs.Lawful.{Defined, Used}
 
 pub record Formed (s : Scheme) : Type 0 where

@@ -1,6 +1,6 @@
 -- A worked example: the house scheme. Its root hands a figure down a chain of symbols 1, each of which adds to it, and takes the last figure back up.
 use Rattle.std.specs.Prelude.{ℕ, List, [], ◌∷◌}
-use Rattle.model.specs.Scheme.{inherited, synthesized, Attribute, Occurrence, Rule, Step, eval, visit, leave, Production, Scheme}
+use Rattle.model.specs.Scheme.{inherited, synthesized, eval, visit, leave, Scheme}
 
 abbrev pub house : Scheme
 house = record {

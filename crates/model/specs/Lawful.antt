@@ -1,9 +1,7 @@
 -- The rules that a scheme's symbols and productions keep, besides the form of its words. Assumes nothing.
-use Rattle.std.specs.Prelude.{◌≡◌, ℕ, zero, suc, ◌+◌, ◌<◌, ◌≤◌, Bool, true, false, cond, not, ◌&&◌, ◌||◌, T, List, [], ◌∷◌, reverse, length, take, ◌==◌}
-use Rattle.std.proofs.Math.Option.{Option, none, some}
-use Rattle.std.proofs.Math.ListN.{get_elem?}
-use Rattle.model.specs.Lists.{Has, any, count, places, from_on}
-use Rattle.model.specs.Scheme.{Side, inherited, synthesized, Attribute, Occurrence, Rule, Step, eval, visit, leave, Production, Scheme, same_occurrence, symbol_at}
+use Rattle.std.specs.Prelude.{◌≡◌, ℕ, suc, ◌<◌, ◌≤◌, Bool, false, ◌&&◌, T, List, reverse, length, take, ◌==◌}
+use Rattle.model.specs.Lists.{Has, any, count, from_on}
+use Rattle.model.specs.Scheme.{Side, inherited, synthesized, Occurrence, Step, eval, visit, leave, Production, Scheme, same_occurrence}
 use Rattle.model.specs.Sequences.{is_leave, section, visit_numbers, leave_numbers, uses, defines}
 
 -- attribute a of the scheme is one of symbol x, on that side, for visit j

@@ -3,7 +3,7 @@ use Rattle.std.specs.Prelude.{◌≡◌, ℕ, suc, Bool, true, false, cond, ◌&
 use Rattle.std.proofs.Math.Option.{some}
 use Rattle.model.specs.Lists.{Has, any, keep, places}
 use Rattle.model.specs.Scheme.{Side, inherited, synthesized, Occurrence, Rule, eval, visit, leave, Production, Scheme, same_occurrence, symbol_at}
-use Rattle.model.specs.Sequences.{section, uses, unused, last_use}
+use Rattle.model.specs.Sequences.{unused, last_use}
 
 -- a life begins or ends
 pub data Mark : Type 0 where

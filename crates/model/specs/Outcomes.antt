@@ -1,10 +1,10 @@
 -- Outcomes of loose walks: which cells a walk of a section can leave from which, as a table of flags, and the rounds that fill it. Assumes nothing.
-use Rattle.std.specs.Prelude.{◌≡◌, ℕ, zero, suc, ◌+◌, ◌*◌, Bool, true, false, cond, not, ◌&&◌, ◌||◌, List, [], ◌∷◌, length, drop, set, replicate, nat_lt, slice_index_or, slice_set}
+use Rattle.std.specs.Prelude.{◌≡◌, ℕ, zero, suc, ◌+◌, ◌*◌, Bool, true, false, cond, not, ◌&&◌, ◌||◌, List, [], ◌∷◌, length, drop, replicate, nat_lt, slice_index_or, slice_set}
 use Rattle.std.proofs.Math.Option.{Option, none, some}
 use Rattle.std.proofs.Math.ListN.{get_elem?}
 use Rattle.model.specs.Lists.{Has}
 use Rattle.model.specs.Scheme.{Rule, Step, eval, visit, leave, Production, Scheme, symbol_at}
-use Rattle.model.specs.Loose.{Mark, begin, end, Cell, empty, held, broken, meets, at_start, after_visit, at_eval, Starts, Loose, visits}
+use Rattle.model.specs.Loose.{Mark, begin, end, Cell, empty, held, broken, meets, at_start, after_visit, at_eval, Starts, Loose}
 
 -- a set of cells
 pub record Cells : Type 0 where

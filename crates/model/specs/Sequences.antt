@@ -1,9 +1,9 @@
 -- What a production's steps say of one another: sections, uses, places. Assumes nothing.
-use Rattle.std.specs.Prelude.{◌≡◌, ℕ, zero, suc, ◌+◌, ◌<◌, ◌≤◌, Bool, true, false, cond, not, ◌&&◌, ◌||◌, List, [], ◌∷◌, length, take, drop, ◌==◌}
+use Rattle.std.specs.Prelude.{ℕ, suc, Bool, true, false, cond, not, ◌&&◌, List, [], ◌∷◌, take, drop, ◌==◌}
 use Rattle.std.proofs.Math.Option.{Option, none, some}
 use Rattle.std.proofs.Math.ListN.{get_elem?}
-use Rattle.model.specs.Lists.{Has, any, count, places}
-use Rattle.model.specs.Scheme.{Side, inherited, synthesized, Attribute, Occurrence, Rule, Step, eval, visit, leave, Production, Scheme, same_occurrence, symbol_at}
+use Rattle.model.specs.Lists.{any, count}
+use Rattle.model.specs.Scheme.{Occurrence, Rule, Step, eval, visit, leave, Production, same_occurrence}
 
 abbrev pub is_leave : Step → Bool
 is_leave (eval r) = false

@@ -1,7 +1,7 @@
 -- Spans: how long an attribute's stack holds the value of a child. Assumes nothing.
 use Rattle.std.specs.Prelude.{ℕ, suc, ◌+◌, ◌*◌, min, max, Bool, cond, not, ◌&&◌, ◌||◌, List, [], ◌∷◌, ◌==◌, nat_le, nat_lt}
-use Rattle.model.specs.Lists.{every, places, greatest}
-use Rattle.model.specs.Scheme.{Side, inherited, synthesized, Attribute, Occurrence, Step, visit, Production, Scheme}
+use Rattle.model.specs.Lists.{every, places}
+use Rattle.model.specs.Scheme.{Side, inherited, synthesized, Attribute, Occurrence, Step, Production, Scheme}
 use Rattle.model.specs.Sequences.{is_visit_of, section, uses, defines}
 use Rattle.model.specs.Lawful.{is_visit}
 

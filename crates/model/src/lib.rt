@@ -1,5 +1,7 @@
 // What a scheme is, how it is read from words, which rules it keeps and how its figures are stored: definitions in specs/, theory in proofs/.
 // The functions here hold nothing: each asks, by its contract, for the proof of main theorems.
+#![tactic(auto)]
+
 ghost use Rattle.std.specs.Prelude.{◌≡◌, ℕ, ◌≤◌, Bool, true, List, [], ◌∷◌};
 ghost use Rattle.model.specs.Checking.{Check, FirstBroken, Keeps};
 ghost use Rattle.model.specs.Conditions.{Last, First};

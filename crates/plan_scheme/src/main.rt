@@ -1,11 +1,12 @@
-// Reads the scheme in the file `scheme`, and says its plan or why it is refused.
+// Reads the scheme in the file `scheme`, and says how much there is of it or why it is refused.
 use anyhow::anyhow;
 use grammar::Refusal;
+use scheme::Scheme;
 use std::{fs, io};
 
-mod answer;
+mod counts;
 
-use answer::plan_line;
+use counts::counts_of;
 
 // The bytes of the file, none where there is no such file.
 fn bytes_of(rt: &HostRuntime, path: &str) -> io::Result<Vec<u8>> {
@@ -23,8 +24,8 @@ fn bytes_of(rt: &HostRuntime, path: &str) -> io::Result<Vec<u8>> {
 
 fn run(rt: &HostRuntime) -> anyhow::Result<()> {
     let bytes = bytes_of(rt, "scheme")?;
-    match plan_line(rt.alloc(), &bytes) {
-        Ok(line) => rt.println(line)?,
+    match Scheme::from_bytes(rt.alloc(), &bytes) {
+        Ok(scheme) => rt.println(counts_of(&scheme))?,
         Err(Refusal::Memory) => return Err(anyhow!("not enough memory")),
         Err(refusal) => rt.println(refusal)?,
     }

@@ -1,11 +1,11 @@
 -- What the findings of a word say of the model's objection to it. Assumes nothing.
-use Rattle.std.proofs.Common.{◌≡◌, ℕ, suc, ◌+◌, ◌-◌, ◌*◌, ◌/◌, ◌%◌, ◌^◌, ◌<◌, ◌≤◌, Bool, true, false, not, ◌&&◌, ◌||◌, eqb, leb, [], ◌∷◌, ◌++◌, length, sym, refl, ap, ◌∙◌, arith}
-use mathlib.Core.Option.{Option, none, some}
+use Rattle.std.proofs.Common.{◌≡◌, ℕ, suc, ◌+◌, ◌-◌, ◌*◌, ◌/◌, ◌%◌, ◌^◌, ◌<◌, Bool, false, not, ◌&&◌, ◌||◌, eqb, leb, [], ◌∷◌, ◌++◌, length, ap, arith}
+use mathlib.Core.Option.{Option, some}
 use Rattle.std.proofs.lemmas.Bool.Decides.{same_from_decides, Decides-like, Decides-eqb, nat_tests}
 use lib.ListN.{get_elem?}
 use Rattle.model.specs.Lists.{any, count}
 use Rattle.model.specs.Scheme.{Occurrence, symbol_at}
-use Rattle.model.specs.Words.{Form, symbol, attribute, production, child, rule, argument, eval, visit, leave, end, written, in_range, field, kind, fields, kinds, Sofar, passes_limit, well_made, present, right_sort, first_cause, objection, taken, accepted, begun, closed, within, visits_at, belongs, defined_here}
+use Rattle.model.specs.Words.{Form, symbol, attribute, production, child, rule, argument, eval, visit, leave, written, field, kind, fields, kinds, Sofar, passes_limit, well_made, present, right_sort, first_cause, objection, taken, accepted, begun, closed, within, visits_at, belongs, defined_here}
 use Rattle.reader.specs.declared.draft.findings.Findings.{Findings}
 use Rattle.reader.specs.Reading.{cause_of}
 

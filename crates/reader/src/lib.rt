@@ -1,4 +1,6 @@
 // Reads a grammar from words: each word in turn, refused by number where it gives cause.
+#![tactic(auto)]
+
 mod draft;
 mod entry;
 

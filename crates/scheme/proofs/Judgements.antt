@@ -1,10 +1,10 @@
 -- From the single checks to the first rule that is broken. Assumes nothing.
-use Rattle.std.proofs.Common.{◌≡◌, ℕ, ◌+◌, ◌<◌, ◌≤◌, Bool, true, false, ◌⊎◌, List, length, Decides, sym, subst, inl, inr, arith}
+use Rattle.std.proofs.Common.{◌≡◌, ℕ, ◌+◌, ◌<◌, ◌≤◌, ◌⊎◌, List, length, subst, inl, inr, arith}
 use Rattle.std.proofs.lemmas.Bool.{cases_lt}
 use Rattle.model.specs.Lists.{Has}
 use Rattle.model.specs.Scheme.{Production, Scheme}
 use Rattle.model.specs.Lawful.{Lawful, Ruled, Evaluated, Sequenced, Ordered}
-use Rattle.model.specs.Checking.{Rooted, Check, root, finite, reached, ruled, evaluated, sequenced, ordered, Keeps, ProductionKept, SymbolsKept, BeforeProduction, KeptBefore, FirstBroken}
+use Rattle.model.specs.Checking.{ruled, evaluated, sequenced, ordered, Keeps, ProductionKept, SymbolsKept, BeforeProduction, FirstBroken}
 use Rattle.model.proofs.Common.Basics.{has_one}
 use Rattle.model.proofs.Common.ListFacts.{has-below}
 

@@ -2,6 +2,7 @@ pub mod Judgements
 pub mod Bytes
 pub mod Deciding
 pub mod Ruling
+pub mod Searches
 pub mod Numbering
 pub mod Roots
 pub mod Readiness

@@ -9,7 +9,7 @@ use Rattle.model.specs.Sequences.{section, uses, defines, rule_uses}
 use Rattle.model.specs.Lawful.{Of, Known, given, visited, Before, Ordered, is_visit}
 use Rattle.model.proofs.Common.ListFacts.{true_of, of_true, or_l, or_r, or_split, has-below}
 use Rattle.scheme.specs.Readiness.{available, AllKnown, ArgumentsKnown, Ready}
-use Rattle.grammar.proofs.Searches.{any_more}
+use Rattle.scheme.proofs.Searches.{any_more}
 
 -- one occurrence
 same_is : (o q : Occurrence) → T (same_occurrence o q) → q ≡ o

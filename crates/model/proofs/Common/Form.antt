@@ -1,7 +1,7 @@
 -- What a scheme's form says in other words. Assumes nothing.
 use Rattle.std.proofs.Common.{ℕ, ◌<◌, ◌≤◌, length, arith}
 use Rattle.model.specs.Lists.{Has}
-use Rattle.model.specs.Scheme.{Side, Occurrence, Rule, visit, leave, Production, Scheme}
+use Rattle.model.specs.Scheme.{Side, Occurrence, Rule, leave, Production, Scheme}
 use Rattle.model.specs.Lawful.{Of, Defined, Used}
 use Rattle.model.specs.Formed.{Formed}
 use Rattle.model.proofs.Common.ListFacts.{has-below}

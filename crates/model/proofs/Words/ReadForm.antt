@@ -9,7 +9,7 @@ use Rattle.model.specs.Lawful.{Of, Defined, Used, Defined.above as defined-above
 use Rattle.model.specs.Formed.{Formed}
 use Rattle.model.specs.Words.{Form, kind, fields, Next, kinds, Sofar, at_first, begun, within, visits_at, belongs, is_inherited, defined_here, after_children, after_arguments, one_less, closed, numbered_side, with_argument, taken, objection, Read, scheme, stopped, finished, accepted, read_from, read}
 use Rattle.model.proofs.Common.ListFacts.{some_none, some_same, and_l, and_r, has_at, has_one, append_left, append_find}
-use Rattle.model.proofs.Words.Accepts.{number, Accepted, accepted_of}
+use Rattle.model.proofs.Words.Accepts.{Accepted, accepted_of}
 
 abbrev bare : List ℕ → List Attribute → Scheme
 bare vs bs = record { visits = vs; attributes = bs; productions = [] }

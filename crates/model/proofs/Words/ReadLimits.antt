@@ -8,7 +8,7 @@ use Rattle.model.specs.Scheme as Made
 use Rattle.model.specs.Formed.{Limited}
 use Rattle.model.specs.Words.{Form, kind, fields, Next, kinds, Sofar, at_first, begun, after_children, after_arguments, one_less, closed, numbered_side, with_argument, taken, objection, Read, scheme, stopped, finished, accepted, read_from, read}
 use Rattle.model.proofs.Common.ListFacts.{some_none, and_l, and_r, or_l, or_r, true_of, false_of, either_way, count_like}
-use Rattle.model.proofs.Words.Accepts.{number, Accepted, accepted_of}
+use Rattle.model.proofs.Words.Accepts.{Accepted, accepted_of}
 use Rattle.model.proofs.Words.ReadForm.{early, active, Good, taken_good, first_good, last_or, body_active, child_active, argument_active, stopped-scheme, scheme-same}
 use Rattle.model.proofs.Words.RoundTrip.{Shape, some_visits, taken_said}
 

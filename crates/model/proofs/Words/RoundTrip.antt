@@ -7,7 +7,7 @@ use Rattle.model.specs.Lists.{Has, any, keep}
 use Rattle.model.specs.Scheme.{Attribute, Occurrence, Rule, Step, eval, visit, leave, Production, Scheme}
 use Rattle.model.specs.Words.{Form, written, kind, fields, Next, kinds, Sofar, at_first, begun, within, after_children, after_arguments, one_less, numbered_side, with_argument, taken, objection, Read, scheme, stopped, finished, accepted, read_from, read, side_number, attribute_word, symbol_words, child_word, argument_word, rule_word, rule_words, step_word, production_words, words_of}
 use Rattle.model.proofs.Common.ListFacts.{and_l, and_r, true_of, false_of, has-below}
-use Rattle.model.proofs.Words.Accepts.{number, Accepted, accepted_of}
+use Rattle.model.proofs.Words.Accepts.{Accepted, accepted_of}
 use Rattle.model.proofs.Words.ReadForm.{early, Good, taken_good, first_good, stopped-scheme, scheme-same}
 
 -- lists

@@ -7,4 +7,4 @@ use Rattle.lives.proofs.alternation.is_clear.Goals as goal
 pub returns : goal.returns
 returns c =
     let t = c.args.table.now in
-    clear-read t (cells_of c.through-visit-ends.result) (c.through-visit-ends.ensures ∙ ap (λ (f : Cells). over (at t) 0 1 f) c.single.ensures)
+    clear-read t (cells_of c.through_visit-ends.result) (c.through_visit-ends.ensures ∙ ap (λ (f : Cells). over (at t) 0 1 f) c.single.ensures)

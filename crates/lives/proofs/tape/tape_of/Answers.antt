@@ -10,8 +10,8 @@ loop-n-preserved c =
     let s = grammar_of c.args.g.now in
     let n = c.loop-n.n in
     let p = c.index.result.now in
-    written_on (map event_of (vec_items c.loop-n.events)) (map event_of (vec_items c.write-production.new.events)) (production_tape s (production_of p)) (tapes s (drop (n + 1) s.productions)) (tapes s (drop n s.productions)) (tape s)
-    c.in-ok-write-production.ensures (tapes_further production_of (vec_items c.args.g.now.productions) s n p (search rules) (search rules)) c.loop-n.invariant
+    written_on (map event_of (vec_items c.loop-n.events)) (map event_of (vec_items c.write_production.new.events)) (production_tape s (production_of p)) (tapes s (drop (n + 1) s.productions)) (tapes s (drop n s.productions)) (tape s)
+    c.in_ok-write_production.ensures (tapes_further production_of (vec_items c.args.g.now.productions) s n p (search rules) (search rules)) c.loop-n.invariant
 
 pub returns : goal.returns
 returns c =

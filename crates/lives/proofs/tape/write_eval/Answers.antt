@@ -14,18 +14,18 @@ use Rattle.lives.specs.Views.{event_of}
 use Rattle.lives.proofs.Writing.{written_push, written_both}
 use Rattle.lives.proofs.tape.write_eval.Goals as goal
 
-pub returns-in-ok-push : goal.returns-in-ok-push
-returns-in-ok-push c =
+pub returns-in_ok-push : goal.returns-in_ok-push
+returns-in_ok-push c =
     let p = production_of c.args.p.now in
     let r = c.index-evaluated.result.now in
     let before = map event_of (vec_items c.args.events.now) in
-    let middle = vec_items c.end-arguments.new.events in
+    let middle = vec_items c.end_arguments.new.events in
     let after = vec_items c.push.new.self in
     let here = at_read rule_of (vec_items c.args.p.now.rules) c.args.rule r (search rules) (search rules) in
     let ended : List Occurrence → List Tape.Event = λ os. end_events (keep (last_use p c.args.t) (distinct (map occurrence_of os))) in
-    let first = c.in-ok-end-arguments.ensures ∙ ap (λ (os : List Occurrence). before ++ ended os) c.deref.ensures.value in
+    let first = c.in_ok-end_arguments.ensures ∙ ap (λ (os : List Occurrence). before ++ ended os) c.deref.ensures.value in
     subst (λ (o : Option Model.Rule). map event_of after ≡ before ++ rule_events p c.args.t o) here
-    (written_both before (map event_of middle) (map event_of after) (ended (vec_items r.arguments)) (Tape.begins r.target.attribute ∷ []) first (written_push middle after (Begins r.target.attribute) c.in-ok-push.ensures.items))
+    (written_both before (map event_of middle) (map event_of after) (ended (vec_items r.arguments)) (Tape.begins r.target.attribute ∷ []) first (written_push middle after (Begins r.target.attribute) c.in_ok-push.ensures.items))
 
 pub returns-else-rule-len : goal.returns-else-rule-len
 returns-else-rule-len c =

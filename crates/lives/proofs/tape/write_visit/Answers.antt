@@ -9,8 +9,8 @@ use Rattle.lives.specs.Writing.{Written}
 use Rattle.lives.proofs.Writing.{written_next}
 use Rattle.lives.proofs.tape.write_visit.Goals as goal
 
-pub returns-in-ok-push : goal.returns-in-ok-push
-returns-in-ok-push c =
+pub returns-in_ok-push-in-Some : goal.returns-in_ok-push-in-Some
+returns-in_ok-push-in-Some c =
     let s = grammar_of c.args.g.now in
     let p = production_of c.args.p.now in
     let x = c.in-Some.symbol in
@@ -18,9 +18,9 @@ returns-in-ok-push c =
     let j = visit_of c.args.visit in
     let before = vec_items c.args.events.now in
     let middle = vec_items c.push.new.self in
-    let after = vec_items c.end-unused.new.events in
+    let after = vec_items c.end_unused.new.events in
     let at_child : some x ≡ symbol_at p k = c.in-Some.ensures ∙ ap (symbol_at p) c.from-position.ensures in
-    let brought = subst (λ (i : ℕ). Written c.end-unused.result middle after (unused_events p k (of_visit s x synthesized i))) c.from.ensures
-    (subst (λ (m : ℕ). Written c.end-unused.result middle after (unused_events p m (of_visit s x synthesized c.from.result))) c.from-position.ensures c.end-unused.ensures) in
-    subst (λ (o : Option ℕ). Written c.end-unused.result before after (visit_events s p k j o)) at_child
-    (written_next c.end-unused.result before middle after (Visits x c.args.visit) (unused_events p k (of_visit s x synthesized j)) c.in-ok-push.ensures.items brought)
+    let brought = subst (λ (i : ℕ). Written c.end_unused.result middle after (unused_events p k (of_visit s x synthesized i))) c.from.ensures
+    (subst (λ (m : ℕ). Written c.end_unused.result middle after (unused_events p m (of_visit s x synthesized c.from.result))) c.from-position.ensures c.end_unused.ensures) in
+    subst (λ (o : Option ℕ). Written c.end_unused.result before after (visit_events s p k j o)) at_child
+    (written_next c.end_unused.result before middle after (Visits x c.args.visit) (unused_events p k (of_visit s x synthesized j)) c.in_ok-push-in-Some.ensures.items brought)

@@ -20,10 +20,10 @@ loop-rest-preserved c =
     let none : Occurrence = record { position = 0; attribute = 0 } in
     let o = get_or rest 0 none in
     let l : 1 ≤ length rest = search rules in
-    let first = cond (not c.is-among.result && c.is-last-use.result) (Tape.ends o.attribute ∷ []) [] in
+    let first = cond (not c.is_among.result && c.is_last_use.result) (Tape.ends o.attribute ∷ []) [] in
     let left : List Occurrence → List Tape.Event = λ os. end_events (keep (last_use p t) (distinct (map occurrence_of os))) in
     written_on (map event_of (vec_items c.loop-rest.events)) (map event_of (vec_items c.end_if.new.events)) first (left later) (left rest) (map event_of (vec_items c.args.events.now) ++ left c.args.arguments.now)
-    c.in-ok-end-if.ensures (arguments_further occurrence_of rest p t none c.is-among.result c.is-last-use.result l c.is-among.ensures c.is-last-use.ensures) c.loop-rest.invariant
+    c.in_ok-end_if.ensures (arguments_further occurrence_of rest p t none c.is_among.result c.is_last_use.result l c.is_among.ensures c.is_last_use.ensures) c.loop-rest.invariant
 
 pub returns : goal.returns
 returns c =

@@ -20,9 +20,9 @@ loop-number-preserved c =
     let j = c.args.arrival.visit in
     let n = c.loop-number.number in
     let a = c.index.result.now in
-    written_on (map event_of (vec_items c.loop-number.events)) (map event_of (vec_items c.end_if.new.events)) (cond c.is-unused.result (Tape.ends n ∷ []) []) (unused_events p k (places (arriving x d j) (n + 1) (drop (n + 1) s.attributes))) (unused_events p k (places (arriving x d j) n (drop n s.attributes)))
+    written_on (map event_of (vec_items c.loop-number.events)) (map event_of (vec_items c.end_if.new.events)) (cond c.is_unused.result (Tape.ends n ∷ []) []) (unused_events p k (places (arriving x d j) (n + 1) (drop (n + 1) s.attributes))) (unused_events p k (places (arriving x d j) n (drop n s.attributes)))
     (map event_of (vec_items c.args.events.now) ++ unused_events p k (of_visit s x d j))
-    c.in-ok-end-if.ensures (unused_further attribute_of (vec_items c.args.g.now.attributes) p k x d j n a c.is-unused.result (search rules) (search rules) c.is-unused.ensures) c.loop-number.invariant
+    c.in_ok-end_if.ensures (unused_further attribute_of (vec_items c.args.g.now.attributes) p k x d j n a c.is_unused.result (search rules) (search rules) c.is_unused.ensures) c.loop-number.invariant
 
 pub returns : goal.returns
 returns c =

@@ -9,4 +9,4 @@ pub returns : goal.returns
 returns c =
     let p = production_of c.args.p.now in
     let reads : Model.Step → Bool = λ st. uses p st (occurrence_of c.args.o) in
-    last_found step_of (vec_items c.args.p.now.steps) c.args.t reads c.index.result.now c.reads.result c.is-read-from.result (search rules) (search rules) (search rules) c.is-read-from.ensures
+    last_found step_of (vec_items c.args.p.now.steps) c.args.t reads c.index.result.now c.reads.result c.is_read_from.result (search rules) (search rules) (search rules) c.is_read_from.ensures

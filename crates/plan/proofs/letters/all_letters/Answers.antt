@@ -14,8 +14,8 @@ bounds-sections-a c =
     let many = sections_many sections_of attribute_of (grammar_of g) c.args.sections.now (vec_items g.attributes) c.requires.sectioned in
     search rules
 
-pub letter-of-requires : goal.letter-of-requires
-letter-of-requires c =
+pub letter_of-requires : goal.letter_of-requires
+letter_of-requires c =
     let g = c.args.g.now in
     let ys = vec_items g.attributes in
     let ws = c.args.sections.now in
@@ -41,5 +41,5 @@ loop-a-preserved c =
       compiled_same s c.loop-a.lives c.letter_or_kept.new.lives c.loop-a.invariant.0 c.letter_or_kept.ensures.same,
       c.letter_or_kept.ensures.clear,
       c.letter_or_kept.ensures.long ∙ c.loop-a.invariant.2,
-      lettering_more s c.loop-a.a (vec_items c.loop-a.letters) (vec_items c.push.new.self) c.in-ok-letter-of.field-0 c.in-ok-push.ensures.items c.in-ok-letter-of.ensures.lettered c.loop-a.invariant.3,
+      lettering_more s c.loop-a.a (vec_items c.loop-a.letters) (vec_items c.push.new.self) c.in_ok-letter_of.field-0 c.in_ok-push.ensures.items c.in_ok-letter_of.ensures.lettered c.loop-a.invariant.3,
     )

@@ -7,8 +7,8 @@ use Rattle.plan.proofs.Bounds.{last_step, last_of-symbol, last_of_other}
 use Rattle.plan.proofs.sections.last_section.Goals as goal
 use Rattle.plan.proofs.sections.last_section.Goals.{then-p-b, else-p-b}
 
-pub latest-reading-last-requires : goal.latest-reading-last-requires
-latest-reading-last-requires c = few_steps_at c.args.g.now c.loop-n.n c.index-p.result.now c.requires (search rules) c.index-p.ensures
+pub latest_reading-last-requires : goal.latest_reading-last-requires
+latest_reading-last-requires c = few_steps_at c.args.g.now c.loop-n.n c.index-p.result.now c.requires (search rules) c.index-p.ensures
 
 pub loop-n-preserved : goal.loop-n-preserved
 loop-n-preserved c =
@@ -21,7 +21,7 @@ loop-n-preserved c =
     let whole = Model.last_section x a (visit_of c.args.b.visit) (map production_of ps) in
     let l : c.loop-n.n < length ps = search rules in
     let next : m ≡ last_step x a n (production_of p) = elim c.if-p-b.branch [
-      | then-p-b w ↦ last_of-symbol x a (production_of p) n m w.if-p-b.true (ap visit_of w.last_is ∙ w.latest-reading-last.ensures)
+      | then-p-b w ↦ last_of-symbol x a (production_of p) n m w.if-p-b.true (ap visit_of w.last_is ∙ w.latest_reading-last.ensures)
       | else-p-b w ↦ last_of_other x a (production_of p) n m w.if-p-b.false (ap visit_of w.last_is)
     ] in
     folded_more production_of (Model.last_section x a) (last_step x a) (λ k q qs. refl) ps c.loop-n.n p n m whole l c.index-p.ensures next c.loop-n.invariant

@@ -9,7 +9,7 @@ use Rattle.plan.proofs.stacking.all_nested.Goals as goal
 pub loop-x-preserved : goal.loop-x-preserved
 loop-x-preserved c =
     let xs = c.args.spans.now in
-    passed_more span_of (λ (x : Model.Span). every (nested x) (map span_of xs)) xs c.loop-x.x-index _ c.loop-x.all c.is-nested-with-all-all.result c.loop-x-test.true c.is-nested-with-all-all.ensures c.loop-x.invariant
+    passed_more span_of (λ (x : Model.Span). every (nested x) (map span_of xs)) xs c.loop-x.x-index _ c.loop-x.all c.is_nested_with_all-all.result c.loop-x-test.true c.is_nested_with_all-all.ensures c.loop-x.invariant
 
 pub returns : goal.returns
 returns c =

@@ -12,7 +12,7 @@ pub loop-x-preserved : goal.loop-x-preserved
 loop-x-preserved c =
     let xs = c.args.spans.now in
     let f = λ (x : Model.Span). every (λ (y : Model.Span). every (on_top x y) (places (is_visit_of x.child) 0 (production_of c.args.p.now).steps)) (map span_of xs) in
-    passed_more span_of f xs c.loop-x.x-index _ c.loop-x.all c.is-on-top-of-all-all.result c.loop-x-test.true c.is-on-top-of-all-all.ensures c.loop-x.invariant
+    passed_more span_of f xs c.loop-x.x-index _ c.loop-x.all c.is_on_top_of_all-all.result c.loop-x-test.true c.is_on_top_of_all-all.ensures c.loop-x.invariant
 
 pub returns : goal.returns
 returns c =

@@ -9,7 +9,7 @@ use Rattle.plan.proofs.stacking.is_on_top_at_visits.Goals as goal
 pub loop-t-preserved : goal.loop-t-preserved
 loop-t-preserved c =
     let x = c.args.x in
-    placed_more step_of (is_visit_of x.child.0) (on_top (span_of x) (span_of c.args.y)) (vec_items c.args.p.now.steps) c.loop-t.t c.index.result.now c.loop-t.all c.visits_child.result c.is-on-top.result (search rules) c.index.ensures c.visits_child.ensures c.is-on-top.ensures c.loop-t.invariant
+    placed_more step_of (is_visit_of x.child.0) (on_top (span_of x) (span_of c.args.y)) (vec_items c.args.p.now.steps) c.loop-t.t c.index.result.now c.loop-t.all c.visits_child.result c.is_on_top.result (search rules) c.index.ensures c.visits_child.ensures c.is_on_top.ensures c.loop-t.invariant
 
 pub returns : goal.returns
 returns c =

@@ -11,7 +11,7 @@ pub loop-y-preserved : goal.loop-y-preserved
 loop-y-preserved c =
     let x = c.args.x in
     let f = λ (y : Model.Span). every (on_top (span_of x) y) (places (is_visit_of x.child.0) 0 (production_of c.args.p.now).steps) in
-    passed_more span_of f c.args.spans.now c.loop-y.y-index _ c.loop-y.all c.is-on-top-at-visits-all.result c.loop-y-test.true c.is-on-top-at-visits-all.ensures c.loop-y.invariant
+    passed_more span_of f c.args.spans.now c.loop-y.y-index _ c.loop-y.all c.is_on_top_at_visits-all.result c.loop-y-test.true c.is_on_top_at_visits-all.ensures c.loop-y.invariant
 
 pub returns : goal.returns
 returns c =

@@ -4,7 +4,7 @@ ghost use Rattle.scheme.specs.Readiness.{available, AllKnown};
 ghost use Rattle.grammar.specs.Views.{side_of, visit_of, occurrence_of, grammar_of, production_of};
 ghost use Rattle.std.specs.Prelude.{◌≡◌, ◌≤◌, map, length, Decides};
 
-use super::before::visited_before;
+use super::before::{section_of, visited_before};
 use grammar::{Grammar, Occurrence, Production, Side, VisitNumber};
 
 // Each of the occurrences is known before the step.
@@ -39,7 +39,7 @@ fn is_available(p: &Production, t: usize, position: usize, side: Side, visit: Vi
     ensures { result ≡ available (production_of p.now) t position (side_of side) (visit_of visit) }
 {
     match side {
-        Side::Inherited => (position == 0) & (visit.0 as usize <= p.section(t)),
+        Side::Inherited => (position == 0) & (visit.0 as usize <= section_of(p, t)),
         Side::Synthesized => (position > 0) & visited_before(p, t, position, visit),
     }
 }

@@ -7,8 +7,8 @@ use Rattle.plan.proofs.plan.Plan.line.Goals as goal
 pub loop-n-preserved : goal.loop-n-preserved
 loop-n-preserved c =
     let xs = vec_items c.args.self.now.letters in
-    let more : string_bytes c.push-str.new.self ≡ string_bytes c.loop-n.line ++ mark (letter_of c.index.result.now) = c.in-ok-push-str.ensures.bytes ∙ ap (λ (t : List ℕ). string_bytes c.loop-n.line ++ t) c.mark.ensures in
-    line_more letter_of (plan_line (map letter_of xs)) xs c.loop-n.n c.index.result.now (string_bytes c.loop-n.line) (string_bytes c.push-str.new.self) (search rules) (search rules) more c.loop-n.invariant
+    let more : string_bytes c.push_str.new.self ≡ string_bytes c.loop-n.line ++ mark (letter_of c.index.result.now) = c.in_ok-push_str.ensures.bytes ∙ ap (λ (t : List ℕ). string_bytes c.loop-n.line ++ t) c.mark.ensures in
+    line_more letter_of (plan_line (map letter_of xs)) xs c.loop-n.n c.index.result.now (string_bytes c.loop-n.line) (string_bytes c.push_str.new.self) (search rules) (search rules) more c.loop-n.invariant
 
 pub returns : goal.returns
 returns c =

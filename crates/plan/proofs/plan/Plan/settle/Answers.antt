@@ -12,10 +12,10 @@ pub tabulate-requires : goal.tabulate-requires
 tabulate-requires c =
     let g = c.grammar-g.result.now in
     let same : scheme_of c.args.scheme.now ≡ grammar_of g = sym c.grammar-g.ensures.value in
-    let letters = vec_items c.in-ok-letters.letters in
+    let letters = vec_items c.in_ok-letters.letters in
     record {
       formed = subst Formed same c.grammar-g.ensures.formed;
       limited = subst Limited same c.grammar-g.ensures.limited;
-      lettered = ap (λ (ls : List Letter). length ls) c.deref-2.ensures.value ∙ sym (length-map letters letter_of) ∙ c.in-ok-letters.ensures.0 ∙ ap (λ (s : Scheme). length s.attributes) same ∙ length-map (vec_items g.attributes) attribute_of;
-      sectioned = ap (map sections_of) c.deref-3.ensures.value ∙ c.in-ok-sections.ensures;
+      lettered = ap (λ (ls : List Letter). length ls) c.deref-2.ensures.value ∙ sym (length-map letters letter_of) ∙ c.in_ok-letters.ensures.0 ∙ ap (λ (s : Scheme). length s.attributes) same ∙ length-map (vec_items g.attributes) attribute_of;
+      sectioned = ap (map sections_of) c.deref-3.ensures.value ∙ c.in_ok-sections.ensures;
     }

@@ -21,7 +21,7 @@ none_held = record { attribute = 0; span = record { child = record { 0 = 0 }; op
 pub loop-h-preserved : goal.loop-h-preserved
 loop-h-preserved c =
     let a = c.args in
-    kept_on stack_span_of (test a.change a.t) name a.held.now c.loop-h.h-index none_held (vec_items c.loop-h.attributes) (vec_items c.note-change.new.attributes) c.loop-h-test.true c.in-ok-note-change.ensures c.loop-h.invariant
+    kept_on stack_span_of (test a.change a.t) name a.held.now c.loop-h.h-index none_held (vec_items c.loop-h.attributes) (vec_items c.note_change.new.attributes) c.loop-h-test.true c.in_ok-note_change.ensures c.loop-h.invariant
 
 pub returns : goal.returns
 returns c =

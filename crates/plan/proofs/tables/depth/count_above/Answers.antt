@@ -16,7 +16,7 @@ pub loop-h-preserved : goal.loop-h-preserved
 loop-h-preserved c =
     let a = c.args in
     let none_held : StackSpan = record { attribute = 0; span = record { child = record { 0 = 0 }; opens_at = 0; opens = 0; closes_at = 0; closes = 0 } } in
-    counted_more stack_span_of (test a.attribute a.floor a.moment) a.held.now c.loop-h.h-index none_held c.loop-h.n c.from-n.result c.loop-h-test.true (c.from-n.ensures ∙ ap bool_byte c.lies-above.ensures) c.loop-h.invariant
+    counted_more stack_span_of (test a.attribute a.floor a.moment) a.held.now c.loop-h.h-index none_held c.loop-h.n c.from-n.result c.loop-h-test.true (c.from-n.ensures ∙ ap bool_byte c.lies_above.ensures) c.loop-h.invariant
 
 pub returns : goal.returns
 returns c =

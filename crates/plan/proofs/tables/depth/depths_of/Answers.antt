@@ -12,7 +12,7 @@ pub loop-o-preserved : goal.loop-o-preserved
 loop-o-preserved c =
     let a = c.args in
     let depth : Model.Occurrence → ℕ = Tables.depth (grammar_of a.g.now) (production_of a.p.now) (map stack_span_of a.held.now) a.moment in
-    mapped_on occurrence_of depth a.occurrences.now c.loop-o.o-index (record { position = 0; attribute = 0 }) (vec_items c.loop-o.depths) (vec_items c.push.new.self) c.depth-of.result c.loop-o-test.true c.in-ok-push.ensures.items c.depth-of.ensures c.loop-o.invariant
+    mapped_on occurrence_of depth a.occurrences.now c.loop-o.o-index (record { position = 0; attribute = 0 }) (vec_items c.loop-o.depths) (vec_items c.push.new.self) c.depth_of.result c.loop-o-test.true c.in_ok-push.ensures.items c.depth_of.ensures c.loop-o.invariant
 
 pub returns : goal.returns
 returns c =

@@ -12,7 +12,7 @@ pub bounds-sections-o : goal.bounds-sections-o
 bounds-sections-o c =
     let g = c.args.g.now in
     let many = sections_many sections_of attribute_of (grammar_of g) c.args.sections.now (vec_items g.attributes) c.requires.sectioned in
-    let below = found_below attribute_of (vec_items g.attributes) c.args.o.attribute (attribute_of c.in-ok-b.b) c.in-ok-b.ensures in
+    let below = found_below attribute_of (vec_items g.attributes) c.args.o.attribute (attribute_of c.in_ok-b.b) c.in_ok-b.ensures in
     omega arith
 
 pub offset-bounds-sections-o : goal.offset-bounds-sections-o
@@ -24,8 +24,8 @@ returns c =
     let o = c.args.o in
     let ws = c.args.sections.now in
     let many = sections_many sections_of attribute_of (grammar_of g) ws (vec_items g.attributes) c.requires.sectioned in
-    let below = found_below attribute_of (vec_items g.attributes) o.attribute (attribute_of c.in-ok-b.b) c.in-ok-b.ensures in
+    let below = found_below attribute_of (vec_items g.attributes) o.attribute (attribute_of c.in_ok-b.b) c.in_ok-b.ensures in
     let wide : o.attribute < length ws = omega arith in
     let w : Sections = get_or ws o.attribute (record { first = record { 0 = 0 }; last = record { 0 = 0 } }) in
-    let known = section_known sections_of (grammar_of g) (grammar_of g).attributes ws o.attribute w (attribute_of c.in-ok-b.b) c.requires.sectioned wide (get_or_default ws o.attribute _ w wide) c.in-ok-b.ensures in
-    floor_stands (grammar_of g) (production_of c.args.p.now) (occurrence_of o) (attribute_of c.in-ok-b.b) (sections_of w) c.span-at.result.opens (search rules) c.in-ok-b.ensures known (ap (λ (x : Spans.Span). x.opens) c.span-at.ensures)
+    let known = section_known sections_of (grammar_of g) (grammar_of g).attributes ws o.attribute w (attribute_of c.in_ok-b.b) c.requires.sectioned wide (get_or_default ws o.attribute _ w wide) c.in_ok-b.ensures in
+    floor_stands (grammar_of g) (production_of c.args.p.now) (occurrence_of o) (attribute_of c.in_ok-b.b) (sections_of w) c.span_at.result.opens (search rules) c.in_ok-b.ensures known (ap (λ (x : Spans.Span). x.opens) c.span_at.ensures)

@@ -14,7 +14,7 @@ loop-span-preserved c =
     let i = c.loop-span.span-index in
     let none_open : Span = record { child = record { 0 = 0 }; opens_at = 0; opens = 0; closes_at = 0; closes = 0 } in
     let more = map_more span_of a.spans.now i none_open c.loop-span-test.true in
-    grown stack_span_of (vec_items c.loop-span.held) (vec_items c.push.new.self) _ (map stack_span_of (vec_items a.held.now)) (on_stack a.attribute (map span_of (take i a.spans.now))) _ c.in-ok-push.ensures.items c.loop-span.invariant
+    grown stack_span_of (vec_items c.loop-span.held) (vec_items c.push.new.self) _ (map stack_span_of (vec_items a.held.now)) (on_stack a.attribute (map span_of (take i a.spans.now))) _ c.in_ok-push.ensures.items c.loop-span.invariant
     (ap (on_stack a.attribute) more ∙ map_push (λ (x : Spans.Span). record { attribute = a.attribute; span = x }) (map span_of (take i a.spans.now)) _)
 
 pub returns : goal.returns

@@ -29,7 +29,7 @@ loop-a-preserved c =
     let wide : a < length ws = omega arith in
     let read = section-read sections_of attribute_of s ws ys a w c.index.result.now c.requires.sectioned wide (get_or_default ws a _ w wide) below (search rules) in
     let long : a < length xs = search rules in
-    holding_more letter_of attribute_of s (production_of c.args.p.now) xs ys a x c.index.result.now (map stack_span_of (vec_items c.loop-a.held)) (map stack_span_of (vec_items c.add-attribute.new.held)) long (get_or_default xs a _ x long) below (search rules) (c.in-ok-add-attribute.ensures s read) c.loop-a.invariant
+    holding_more letter_of attribute_of s (production_of c.args.p.now) xs ys a x c.index.result.now (map stack_span_of (vec_items c.loop-a.held)) (map stack_span_of (vec_items c.add_attribute.new.held)) long (get_or_default xs a _ x long) below (search rules) (c.in_ok-add_attribute.ensures s read) c.loop-a.invariant
 
 pub returns : goal.returns
 returns c =

@@ -14,8 +14,8 @@ use Rattle.plan.proofs.tables.step.argument_depths.Goals as goal
 pub index-requires : goal.index-requires
 index-requires c = let long = length-map (vec_items c.args.p.now.rules) rule_of in let l = c.in-Some.ensures.0 in search rules
 
-pub depths-of-requires : goal.depths-of-requires
-depths-of-requires c =
+pub depths_of-requires : goal.depths_of-requires
+depths_of-requires c =
     let p = c.args.p.now in
     let x = c.index.result.now in
     let long = length-map (vec_items p.rules) rule_of in
@@ -35,6 +35,6 @@ returns-in-Some c =
     let l = c.in-Some.ensures.0 in
     let is = at_read rule_of (vec_items p.rules) c.in-Some.rule c.index.result.now (search rules) (search rules) ∙ sym c.in-Some.ensures.1 in
     let st = step_of c.args.step in
-    IfOk-weaker c.depths-of.result (λ v. vec_items v ≡ map (depth s (production_of p) hs (3 * c.args.t)) (map occurrence_of c.deref.result.now)) (λ v. vec_items v ≡ argument_depths s (production_of p) hs c.args.t (step_rule (production_of p) st))
+    IfOk-weaker c.depths_of.result (λ v. vec_items v ≡ map (depth s (production_of p) hs (3 * c.args.t)) (map occurrence_of c.deref.result.now)) (λ v. vec_items v ≡ argument_depths s (production_of p) hs c.args.t (step_rule (production_of p) st))
     (λ v h. h ∙ ap (λ (os : List Occurrence). map (depth s (production_of p) hs (3 * c.args.t)) (map occurrence_of os)) c.deref.ensures.value ∙ ap (λ (r : Option Rule). argument_depths s (production_of p) hs c.args.t r) is)
-    c.depths-of.ensures
+    c.depths_of.ensures

@@ -12,8 +12,8 @@ use Rattle.plan.proofs.tables.step.target_depth.Goals as goal
 pub index-requires : goal.index-requires
 index-requires c = let long = length-map (vec_items c.args.p.now.rules) rule_of in let l = c.in-Some.ensures.0 in search rules
 
-pub depth-of-requires : goal.depth-of-requires
-depth-of-requires c =
+pub depth_of-requires : goal.depth_of-requires
+depth_of-requires c =
     let p = c.args.p.now in
     let long = length-map (vec_items p.rules) rule_of in
     let l = c.in-Some.ensures.0 in
@@ -29,4 +29,4 @@ returns-in-Some c =
     let long = length-map (vec_items p.rules) rule_of in
     let l = c.in-Some.ensures.0 in
     let is = at_read rule_of (vec_items p.rules) c.in-Some.rule c.index.result.now (search rules) (search rules) ∙ sym c.in-Some.ensures.1 in
-    c.depth-of.ensures ∙ ap (λ (r : Option Rule). target_depth (grammar_of c.args.g.now) (production_of p) (map stack_span_of c.args.held.now) c.args.t r) is
+    c.depth_of.ensures ∙ ap (λ (r : Option Rule). target_depth (grammar_of c.args.g.now) (production_of p) (map stack_span_of c.args.held.now) c.args.t r) is

@@ -1,4 +1,4 @@
-use Rattle.std.proofs.Common.{◌≡◌, ℕ, ◌%◌, true, false, ◌&&◌, eqb, ltb, leb, length, refl, ap, rules}
+use Rattle.std.proofs.Common.{◌≡◌, ◌%◌, true, false, eqb, ltb, length, refl, rules}
 use Rattle.std.proofs.lemmas.List.{length-map}
 use Rattle.reader.specs.Reading.{sofar_of}
 use Rattle.model.specs.Words.{child, field}

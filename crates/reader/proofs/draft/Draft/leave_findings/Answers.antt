@@ -1,4 +1,4 @@
-use Rattle.std.proofs.Common.{◌≡◌, ℕ, ◌%◌, true, false, not, ◌&&◌, eqb, ltb, leb, length, refl, ap, ◌∙◌, rules}
+use Rattle.std.proofs.Common.{◌≡◌, ◌%◌, true, ◌&&◌, eqb, leb, length, refl, ap, rules}
 use Rattle.std.proofs.lemmas.List.{length-map}
 use Rattle.reader.specs.Reading.{sofar_of}
 use Rattle.model.specs.Words.{leave, field}
@@ -12,5 +12,5 @@ returns c =
     let q = sofar_of c.args.self.now in
     let j = c.nibble-visit.result in
     let steps : c.len.result ≡ length q.current.steps = search (rules, length-map) in
-    let here = leave_here q w j (option_of visit_of c.last-visit.result) c.within.result c.within.ensures c.last-visit.ensures c.nibble-visit.ensures in
+    let here = leave_here q w j (option_of visit_of c.last_visit.result) c.within.result c.within.ensures c.last_visit.ensures c.nibble-visit.ensures in
     objects q w 9 (leave (field w 24 4)) (record { in_order = c.allows.result; over_limit = leb 64 c.len.result; well_made = (leb 1 j && leb j 4) && eqb (w % 16777216) 0; present = c.within.result; right_sort = true }) c.requires refl c.allows.ensures (ap (leb 64) steps) (well_leave w j c.requires c.nibble-visit.ensures) here refl

@@ -1,8 +1,7 @@
-use Rattle.std.proofs.Common.{◌≡◌, ℕ, ◌%◌, true, ◌&&◌, eqb, leb, length, vec_items, vec_len, refl, ap, ◌∙◌, rules}
+use Rattle.std.proofs.Common.{◌≡◌, ◌%◌, true, ◌&&◌, eqb, leb, length, refl, ap, rules}
 use Rattle.std.proofs.lemmas.List.{length-map}
 use Rattle.model.specs.Words.{symbol, field}
 use Rattle.reader.specs.Reading.{sofar_of}
-use Rattle.grammar.specs.Views.{visit_of}
 use Rattle.reader.proofs.Judging.{objects, well_symbol}
 use Rattle.reader.proofs.draft.Draft.symbol_findings.Goals as goal
 

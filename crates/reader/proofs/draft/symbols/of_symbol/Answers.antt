@@ -1,4 +1,4 @@
-use Rattle.std.proofs.Common.{eqb, rules}
+use Rattle.std.proofs.Common.{eqb}
 use Rattle.model.specs.Scheme.{Attribute}
 use Rattle.grammar.specs.Views.{attribute_of}
 use Rattle.grammar.specs.declared.parts.Side.TheVariants.{Inherited}

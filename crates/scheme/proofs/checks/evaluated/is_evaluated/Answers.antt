@@ -11,17 +11,17 @@ pub loop-rule-preserved : goal.loop-rule-preserved
 loop-rule-preserved c =
     let p = production_of c.args.p.now in
     let i = c.loop-rule.rule in
-    let n : c.evals-of.result ≡ count (is_eval_of i) p.steps = c.evals-of.ensures ∙ ap (λ (ts : List Step). count (is_eval_of i) (map step_of ts)) c.deref.ensures.value in
-    below_more (λ (r : ℕ). Once (is_eval_of r) p.steps) i (sym n ∙ c.if-evals-of-ne1.false) c.loop-rule.invariant
+    let n : c.evals_of.result ≡ count (is_eval_of i) p.steps = c.evals_of.ensures ∙ ap (λ (ts : List Step). count (is_eval_of i) (map step_of ts)) c.deref.ensures.value in
+    below_more (λ (r : ℕ). Once (is_eval_of r) p.steps) i (sym n ∙ c.if-evals_of-ne1.false) c.loop-rule.invariant
 
-pub returns-then-evals-of-ne1 : goal.returns-then-evals-of-ne1
-returns-then-evals-of-ne1 c =
+pub returns-then-evals_of-ne1 : goal.returns-then-evals_of-ne1
+returns-then-evals_of-ne1 c =
     let p = production_of c.args.p.now in
     let rules = c.args.p.now.rules in
     let i = c.loop-rule.rule in
-    let n : c.evals-of.result ≡ count (is_eval_of i) p.steps = c.evals-of.ensures ∙ ap (λ (ts : List Step). count (is_eval_of i) (map step_of ts)) c.deref.ensures.value in
+    let n : c.evals_of.result ≡ count (is_eval_of i) p.steps = c.evals_of.ensures ∙ ap (λ (ts : List Step). count (is_eval_of i) (map step_of ts)) c.deref.ensures.value in
     let m = length-map (vec_items rules) rule_of in
-    fails (λ h. c.if-evals-of-ne1.true (n ∙ h i (omega (arith, rules.ok.0))))
+    fails (λ h. c.if-evals_of-ne1.true (n ∙ h i (omega (arith, rules.ok.0))))
 
 pub returns : goal.returns
 returns c =

@@ -5,9 +5,9 @@ use Rattle.grammar.specs.Views.{grammar_of}
 use Rattle.scheme.proofs.Marks.{blank}
 use Rattle.scheme.proofs.checks.finite.first_endless.Goals as goal
 
-pub first-left-out-requires : goal.first-left-out-requires
-first-left-out-requires c =
-    let begun = blank (Finite (grammar_of c.args.g.now)) c.len.result c.deref-mut.result.now (c.deref-mut.ensures.value ∙ c.in-ok-marks.ensures.items-if-clones-equal (λ y h. h)) in
+pub first_left_out-requires : goal.first_left_out-requires
+first_left_out-requires c =
+    let begun = blank (Finite (grammar_of c.args.g.now)) c.len.result c.deref_mut.result.now (c.deref_mut.ensures.value ∙ c.in_ok-marks.ensures.items_if_clones_equal (λ y h. h)) in
     record {
       formed = c.requires;
       size = simp length-map (search rules);

@@ -9,17 +9,17 @@ pub loop-production-init : goal.loop-production-init
 loop-production-init c = λ m l. absurd (not-suc-le-zero l)
 
 pub loop-production-preserved : goal.loop-production-preserved
-loop-production-preserved c = one_more_kept (grammar_of c.args.g.now) c.loop-production.production c.loop-production.invariant c.in-ok-judge-production.ensures
+loop-production-preserved c = one_more_kept (grammar_of c.args.g.now) c.loop-production.production c.loop-production.invariant c.in_ok-judge_production.ensures
 
-pub returns-in-err-judge-symbols : goal.returns-in-err-judge-symbols
-returns-in-err-judge-symbols c =
-    let p = err_from_is_err_and c.from-residual.result c.from-residual.ensures.1 in
-    rw (p.1, p.2) c.in-err-judge-symbols.ensures
+pub returns-in_err-judge_symbols : goal.returns-in_err-judge_symbols
+returns-in_err-judge_symbols c =
+    let p = err_from_is_err_and c.from_residual.result c.from_residual.ensures.1 in
+    rw (p.1, p.2) c.in_err-judge_symbols.ensures
 
-pub returns-in-err-judge-production : goal.returns-in-err-judge-production
-returns-in-err-judge-production c =
-    let p = err_from_is_err_and c.from-residual-in-err-judge-production.result c.from-residual-in-err-judge-production.ensures.1 in
-    rw (p.1, p.2) (c.in-err-judge-production.ensures (c.in-ok-judge-symbols.ensures, c.loop-production.invariant))
+pub returns-in_err-judge_production : goal.returns-in_err-judge_production
+returns-in_err-judge_production c =
+    let p = err_from_is_err_and c.from_residual-in_err-judge_production.result c.from_residual-in_err-judge_production.ensures.1 in
+    rw (p.1, p.2) (c.in_err-judge_production.ensures (c.in_ok-judge_symbols.ensures, c.loop-production.invariant))
 
 pub returns : goal.returns
 returns c =
@@ -27,4 +27,4 @@ returns c =
     let long : c.len-production-end.result ≡ length s.productions = search (rules, length-map) in
     let past = c.loop-production-test.false in
     let l : length s.productions ≤ c.loop-production.production = omega arith in
-    all_kept s c.loop-production.production l c.in-ok-judge-symbols.ensures c.loop-production.invariant
+    all_kept s c.loop-production.production l c.in_ok-judge_symbols.ensures c.loop-production.invariant

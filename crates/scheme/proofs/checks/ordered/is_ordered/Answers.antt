@@ -22,4 +22,4 @@ pub returns-in-Leave : goal.returns-in-Leave
 returns-in-Leave c =
     let p = c.args.p.now in
     let e = ap (λ (z : Step). some (step_of z)) (sym c.in-Leave.is) ∙ at_read step_of (vec_items p.steps) c.args.t c.index.result.now (search rules) (search rules) in
-    ordered-leave (grammar_of c.args.g.now) (production_of p) c.args.t c.in-Leave.visit.0 c.all-defined-before.result e c.all-defined-before.ensures
+    ordered-leave (grammar_of c.args.g.now) (production_of p) c.args.t c.in-Leave.visit.0 c.all_defined_before.result e c.all_defined_before.ensures

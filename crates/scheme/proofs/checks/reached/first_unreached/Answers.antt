@@ -7,10 +7,10 @@ use Rattle.scheme.proofs.checks.reached.first_unreached.Goals as goal
 pub returns-then-len-eq0 : goal.returns-then-len-eq0
 returns-then-len-eq0 c = none_asked (grammar_of c.args.g.now) (simp length-map (search rules))
 
-pub first-left-out-requires : goal.first-left-out-requires
-first-left-out-requires c =
-    let first = c.deref-mut.ensures.value ∙ ap (λ (ms : List Bool). set ms 0 true) (c.in-ok-marks.ensures.items-if-clones-equal (λ y h. h)) in
-    let begun = root_alone (grammar_of c.args.g.now) c.len-2.result c.deref-mut.result.now (search rules) first in
+pub first_left_out-requires : goal.first_left_out-requires
+first_left_out-requires c =
+    let first = c.deref_mut.ensures.value ∙ ap (λ (ms : List Bool). set ms 0 true) (c.in_ok-marks.ensures.items_if_clones_equal (λ y h. h)) in
+    let begun = root_alone (grammar_of c.args.g.now) c.len-2.result c.deref_mut.result.now (search rules) first in
     record {
       formed = c.requires;
       size = simp length-map (search rules);

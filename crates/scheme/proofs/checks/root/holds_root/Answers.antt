@@ -1,6 +1,6 @@
 use Rattle.std.proofs.Common.{eqb, get_or, refl}
 use Rattle.scheme.specs.Roots.{is_root}
-use Rattle.grammar.proofs.Searches.{found_more, found_all}
+use Rattle.scheme.proofs.Searches.{found_more, found_all}
 use Rattle.scheme.proofs.checks.root.holds_root.Goals as goal
 
 pub loop-x-preserved : goal.loop-x-preserved

@@ -1,5 +1,5 @@
 use Rattle.scheme.specs.Roots.{is_root}
-use Rattle.grammar.proofs.Searches.{Found}
+use Rattle.scheme.proofs.Searches.{Found}
 use Rattle.scheme.proofs.checks.root.holds_root.Given as goal
 
 abbrev pub invariant-loop-x : goal.invariant-loop-x

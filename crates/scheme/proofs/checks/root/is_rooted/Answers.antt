@@ -10,7 +10,7 @@ use Rattle.scheme.proofs.checks.root.is_rooted.Goals as goal
 
 pub returns : goal.returns
 returns c =
-    let one = subst (λ (o : Option ℕ). Decides c.visited-once.result (o ≡ some 1)) c.last-visit.ensures c.visited-once.ensures in
-    let inherits = c.root-inherits-inherits.ensures ∙ ap (λ (xs : List Attribute). any inherited_of_root (map attribute_of xs)) c.deref.ensures.value in
-    let child = c.root-is-child-child.ensures ∙ ap (λ (ps : List Production). any has_root_child (map production_of ps)) c.deref-2.ensures.value in
-    rooted_by (grammar_of c.args.g.now) c.visited-once.result c.root-inherits-inherits.result c.root-is-child-child.result one inherits child
+    let one = subst (λ (o : Option ℕ). Decides c.visited_once.result (o ≡ some 1)) c.last_visit.ensures c.visited_once.ensures in
+    let inherits = c.root_inherits-inherits.ensures ∙ ap (λ (xs : List Attribute). any inherited_of_root (map attribute_of xs)) c.deref.ensures.value in
+    let child = c.root_is_child-child.ensures ∙ ap (λ (ps : List Production). any has_root_child (map production_of ps)) c.deref-2.ensures.value in
+    rooted_by (grammar_of c.args.g.now) c.visited_once.result c.root_inherits-inherits.result c.root_is_child-child.result one inherits child

@@ -3,14 +3,14 @@ use Rattle.scheme.specs.Roots.{inherited_of_root}
 use Rattle.grammar.specs.Views.{attribute_of}
 use Rattle.grammar.specs.declared.parts.Attribute.{Attribute}
 use Rattle.grammar.specs.declared.parts.Side.TheVariants.{Inherited}
-use Rattle.grammar.proofs.Searches.{found_more, found_all, any-map}
+use Rattle.scheme.proofs.Searches.{found_more, found_all, any-map}
 use Rattle.scheme.proofs.checks.root.root_inherits.Goals as goal
 
 abbrev test : Attribute → Bool
 test a = inherited_of_root (attribute_of a)
 
 pub loop-a-preserved : goal.loop-a-preserved
-loop-a-preserved c = found_more test c.args.attributes.now c.loop-a.a-index (record { symbol = 0; side = Inherited; visit = record { 0 = 0 } }) c.loop-a.found c.root-inherited-found.result c.loop-a-test.true c.root-inherited-found.ensures c.loop-a.invariant
+loop-a-preserved c = found_more test c.args.attributes.now c.loop-a.a-index (record { symbol = 0; side = Inherited; visit = record { 0 = 0 } }) c.loop-a.found c.root_inherited-found.result c.loop-a-test.true c.root_inherited-found.ensures c.loop-a.invariant
 
 pub returns : goal.returns
 returns c =

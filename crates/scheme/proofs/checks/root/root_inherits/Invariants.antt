@@ -1,6 +1,6 @@
 use Rattle.scheme.specs.Roots.{inherited_of_root}
 use Rattle.grammar.specs.Views.{attribute_of}
-use Rattle.grammar.proofs.Searches.{Found}
+use Rattle.scheme.proofs.Searches.{Found}
 use Rattle.scheme.proofs.checks.root.root_inherits.Given as goal
 
 abbrev pub invariant-loop-a : goal.invariant-loop-a

@@ -3,7 +3,7 @@ use Rattle.model.specs.Lists.{any}
 use Rattle.scheme.specs.Roots.{is_root, has_root_child}
 use Rattle.grammar.specs.Views.{production_of}
 use Rattle.grammar.specs.declared.parts.Production.{Production}
-use Rattle.grammar.proofs.Searches.{found_more, found_all, any-map}
+use Rattle.scheme.proofs.Searches.{found_more, found_all, any-map}
 use Rattle.scheme.proofs.checks.root.root_is_child.Goals as goal
 
 abbrev test : Production → Bool
@@ -12,8 +12,8 @@ test p = has_root_child (production_of p)
 pub loop-p-preserved : goal.loop-p-preserved
 loop-p-preserved c =
     let p = c.p-item.result in
-    let r = c.holds-root-found.ensures ∙ ap (any is_root) c.deref.ensures.value ∙ ap test c.p-item.is in
-    found_more test c.args.productions.now c.loop-p.p-index p c.loop-p.found c.holds-root-found.result c.loop-p-test.true r c.loop-p.invariant
+    let r = c.holds_root-found.ensures ∙ ap (any is_root) c.deref.ensures.value ∙ ap test c.p-item.is in
+    found_more test c.args.productions.now c.loop-p.p-index p c.loop-p.found c.holds_root-found.result c.loop-p-test.true r c.loop-p.invariant
 
 pub returns : goal.returns
 returns c =

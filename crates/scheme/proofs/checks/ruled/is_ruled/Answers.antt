@@ -9,11 +9,11 @@ pub loop-position-preserved : goal.loop-position-preserved
 loop-position-preserved c =
     let s = grammar_of c.args.g.now in
     let p = production_of c.args.p.now in
-    below_more (λ (k : ℕ). (a : ℕ) → RuledOnce s p (record { position = k; attribute = a })) c.loop-position.position (c.is-ruled-at.ensures.0 c.if-not-is-ruled-at.false) c.loop-position.invariant
+    below_more (λ (k : ℕ). (a : ℕ) → RuledOnce s p (record { position = k; attribute = a })) c.loop-position.position (c.is_ruled_at.ensures.0 c.if-not-is_ruled_at.false) c.loop-position.invariant
 
-pub returns-else-not-is-ruled-at : goal.returns-else-not-is-ruled-at
-returns-else-not-is-ruled-at c =
+pub returns-else-not-is_ruled_at : goal.returns-else-not-is_ruled_at
+returns-else-not-is_ruled_at c =
     let s = grammar_of c.args.g.now in
     let p = production_of c.args.p.now in
-    let more = below_more (λ (k : ℕ). (a : ℕ) → RuledOnce s p (record { position = k; attribute = a })) c.loop-position.position (c.is-ruled-at.ensures.0 c.if-not-is-ruled-at.false) c.loop-position.invariant in
+    let more = below_more (λ (k : ℕ). (a : ℕ) → RuledOnce s p (record { position = k; attribute = a })) c.loop-position.position (c.is_ruled_at.ensures.0 c.if-not-is_ruled_at.false) c.loop-position.invariant in
     holds (all_positions s p (λ k l. more k (omega (arith, c.args.p.now.children.ok.0))))

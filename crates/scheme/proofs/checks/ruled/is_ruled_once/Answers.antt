@@ -10,5 +10,5 @@ use Rattle.scheme.proofs.checks.ruled.is_ruled_once.Goals as goal
 pub returns : goal.returns
 returns c =
     let o = occurrence_of c.args.o in
-    let n = c.rules-for.ensures ∙ ap (λ (rs : List Rule). count (λ (q : Model.Rule). same_occurrence o q.target) (map rule_of rs)) c.deref.ensures.value in
-    decides_ruled (grammar_of c.args.g.now) (production_of c.args.p.now) o c.is-defined.result c.rules-for.result c.is-defined.ensures n
+    let n = c.rules_for.ensures ∙ ap (λ (rs : List Rule). count (λ (q : Model.Rule). same_occurrence o q.target) (map rule_of rs)) c.deref.ensures.value in
+    decides_ruled (grammar_of c.args.g.now) (production_of c.args.p.now) o c.is_defined.result c.rules_for.result c.is_defined.ensures n

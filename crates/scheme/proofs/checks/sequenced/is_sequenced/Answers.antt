@@ -9,4 +9,4 @@ use Rattle.scheme.proofs.checks.sequenced.is_sequenced.Goals as goal
 pub returns : goal.returns
 returns c =
     let ends = subst (λ (ts : List Step). Decides c.ends_with_leave.result (count is_leave (take 1 (reverse (map step_of ts))) ≡ 1)) c.deref.ensures.value c.ends_with_leave.ensures in
-    sequenced_by (grammar_of c.args.g.now) (production_of c.args.p.now) c.ends_with_leave.result c.in-sequence.result c.children-in-sequence.result ends c.in-sequence.ensures c.children-in-sequence.ensures
+    sequenced_by (grammar_of c.args.g.now) (production_of c.args.p.now) c.ends_with_leave.result c.in_sequence.result c.children_in_sequence.result ends c.in_sequence.ensures c.children_in_sequence.ensures

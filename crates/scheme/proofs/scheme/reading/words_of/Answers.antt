@@ -7,4 +7,4 @@ pub loop-rest-preserved : goal.loop-rest-preserved
 loop-rest-preserved c =
     let bs = c.loop-rest.rest.now in
     let l : 4 ≤ length bs = search rules in
-    bytes_further (vec_items c.loop-rest.words) (vec_items c.push.new.self) bs (take (length bs - 4) (drop 4 bs)) c.args.bytes.now c.from-be-bytes.result l c.from-be-bytes.ensures c.in-ok-push.ensures.items (take_rest bs 4) c.loop-rest.invariant
+    bytes_further (vec_items c.loop-rest.words) (vec_items c.push.new.self) bs (take (length bs - 4) (drop 4 bs)) c.args.bytes.now c.from_be_bytes.result l c.from_be_bytes.ensures c.in_ok-push.ensures.items (take_rest bs 4) c.loop-rest.invariant

@@ -2,7 +2,7 @@ use Rattle.std.proofs.Common.{vec_items, rules}
 use Rattle.model.specs.Scheme.{Step}
 use Rattle.model.specs.Sequences.{defines}
 use Rattle.grammar.specs.Views.{production_of, occurrence_of, step_of}
-use Rattle.grammar.proofs.Searches.{found_mapped}
+use Rattle.scheme.proofs.Searches.{found_mapped}
 use Rattle.scheme.proofs.checks.ordered.before.defined_before.Goals as goal
 
 pub loop-i-preserved : goal.loop-i-preserved

@@ -1,7 +1,7 @@
 use Rattle.std.proofs.Common.{vec_items, rules}
 use Rattle.model.specs.Lawful.{is_visit}
 use Rattle.grammar.specs.Views.{visit_of, step_of}
-use Rattle.grammar.proofs.Searches.{found_mapped}
+use Rattle.scheme.proofs.Searches.{found_mapped}
 use Rattle.scheme.proofs.checks.ordered.before.visited_before.Goals as goal
 
 pub loop-i-preserved : goal.loop-i-preserved

@@ -2,7 +2,7 @@
 ghost use Rattle.std.specs.Prelude.{◌≡◌, ◌%◌, length, Err, string_bytes, ◌≢◌};
 ghost use Rattle.model.specs.Words.{from_bytes};
 ghost use Rattle.grammar.specs.declared.refusal.Refusal.TheVariants.{UnevenBytes};
-ghost use Rattle.plan_scheme.specs.Answers.{Answered};
+ghost use Rattle.plan_letters.specs.Answers.{Answered};
 
 use grammar::Refusal;
 use plan::Plan;
