@@ -1,4 +1,6 @@
 // A plan: which figures of a scheme share a single cell, live on a stack or stay in the tree.
+#![tactic(auto)]
+
 mod letter;
 mod letters;
 mod plan;

@@ -1,4 +1,6 @@
 // Reads the scheme in the file `scheme`, and says its plan or why it is refused.
+#![tactic(auto)]
+
 use anyhow::anyhow;
 use grammar::Refusal;
 use std::{fs, io};

@@ -1,4 +1,6 @@
 // Reads the scheme in the file `scheme`, and says how much there is of it or why it is refused.
+#![tactic(auto)]
+
 use anyhow::anyhow;
 use grammar::Refusal;
 use scheme::Scheme;

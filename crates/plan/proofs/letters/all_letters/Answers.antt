@@ -38,8 +38,8 @@ letter_of-requires c =
 pub loop-a-preserved : goal.loop-a-preserved
 loop-a-preserved c =
     let s = grammar_of c.args.g.now in (
-      compiled_same s c.loop-a.lives c.letter_or_kept.new.lives c.loop-a.invariant.0 c.letter_or_kept.ensures.same,
-      c.letter_or_kept.ensures.clear,
-      c.letter_or_kept.ensures.long ∙ c.loop-a.invariant.2,
+      compiled_same s c.loop-a.lives c.letter_of.new.lives c.loop-a.invariant.0 c.letter_of.ensures.same,
+      c.letter_of.ensures.clear,
+      c.letter_of.ensures.long ∙ c.loop-a.invariant.2,
       lettering_more s c.loop-a.a (vec_items c.loop-a.letters) (vec_items c.push.new.self) c.in_ok-letter_of.field-0 c.in_ok-push.ensures.items c.in_ok-letter_of.ensures.lettered c.loop-a.invariant.3,
     )

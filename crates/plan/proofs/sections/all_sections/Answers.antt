@@ -8,7 +8,7 @@ use Rattle.plan.proofs.sections.all_sections.Goals as goal
 pub loop-a-preserved : goal.loop-a-preserved
 loop-a-preserved c =
     let g = c.args.g.now in
-    writing_more sections_of attribute_of (attribute_sections (grammar_of g)) (vec_items g.attributes) c.loop-a.a c.index.result.now (vec_items c.loop-a.all) (vec_items c.push.new.self) c.attribute_sections.result (search rules) c.index.ensures c.in_ok-push.ensures.items c.attribute_sections.ensures c.loop-a.invariant
+    writing_more sections_of attribute_of (attribute_sections (grammar_of g)) (vec_items g.attributes) c.loop-a.a c.index.result.now (vec_items c.loop-a.all) (vec_items c.push.new.self) c.sections_of.result (search rules) c.index.ensures c.in_ok-push.ensures.items c.sections_of.ensures c.loop-a.invariant
 
 pub returns : goal.returns
 returns c =

@@ -21,8 +21,8 @@ loop-n-preserved c =
     let whole = Model.first_section x a (visit_of c.args.b.visit) (map production_of ps) in
     let l : c.loop-n.n < length ps = search rules in
     let next : m ≡ first_step x a n (production_of p) = elim c.if-p-b.branch [
-      | then-p-b w ↦ first_of-symbol x a (production_of p) n m w.if-p-b.true (ap visit_of w.first_is ∙ w.earliest_giving-first.ensures)
-      | else-p-b w ↦ first_of_other x a (production_of p) n m w.if-p-b.false (ap visit_of w.first_is)
+      | then-p-b w ↦ first_of-symbol x a (production_of p) n m w.if-p-b.true (ap visit_of w.first-is ∙ w.earliest_giving-first.ensures)
+      | else-p-b w ↦ first_of_other x a (production_of p) n m w.if-p-b.false (ap visit_of w.first-is)
     ] in
     folded_more production_of (Model.first_section x a) (first_step x a) (λ k q qs. refl) ps c.loop-n.n p n m whole l c.index-p.ensures next c.loop-n.invariant
 

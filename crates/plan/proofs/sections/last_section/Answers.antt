@@ -21,8 +21,8 @@ loop-n-preserved c =
     let whole = Model.last_section x a (visit_of c.args.b.visit) (map production_of ps) in
     let l : c.loop-n.n < length ps = search rules in
     let next : m ≡ last_step x a n (production_of p) = elim c.if-p-b.branch [
-      | then-p-b w ↦ last_of-symbol x a (production_of p) n m w.if-p-b.true (ap visit_of w.last_is ∙ w.latest_reading-last.ensures)
-      | else-p-b w ↦ last_of_other x a (production_of p) n m w.if-p-b.false (ap visit_of w.last_is)
+      | then-p-b w ↦ last_of-symbol x a (production_of p) n m w.if-p-b.true (ap visit_of w.last-is ∙ w.latest_reading-last.ensures)
+      | else-p-b w ↦ last_of_other x a (production_of p) n m w.if-p-b.false (ap visit_of w.last-is)
     ] in
     folded_more production_of (Model.last_section x a) (last_step x a) (λ k q qs. refl) ps c.loop-n.n p n m whole l c.index-p.ensures next c.loop-n.invariant
 

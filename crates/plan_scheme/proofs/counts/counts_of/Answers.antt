@@ -1,7 +1,6 @@
 use Rattle.std.proofs.Common.{◌≡◌, length, rules}
 use Rattle.std.proofs.lemmas.List.{length-map}
 use Rattle.grammar.specs.Views.{grammar_of}
-use Rattle.scheme.specs.Whole.{scheme_of}
 use Rattle.plan_scheme.proofs.counts.counts_of.Goals as goal
 
 pub returns : goal.returns

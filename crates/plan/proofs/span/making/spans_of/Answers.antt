@@ -5,7 +5,7 @@ use Rattle.plan.specs.Views.{sections_of, span_of}
 use Rattle.plan.specs.declared.span.Span.{Span}
 use Rattle.plan.proofs.Spanning.{spans_from, spans_more, spans_past, spans_through, spans_are}
 use Rattle.plan.proofs.span.making.spans_of.Goals as goal
-use Rattle.plan.proofs.span.making.spans_of.Goals.{then-index-b+in-ok-push, else-index-b}
+use Rattle.plan.proofs.span.making.spans_of.Goals.{then-index-b+in_ok-push, else-index-b}
 
 pub loop-k-preserved : goal.loop-k-preserved
 loop-k-preserved c =
@@ -21,7 +21,7 @@ loop-k-preserved c =
     let whole = spans_from p a side w x 1 cs in
     let l : k < length cs = search rules in
     elim c.if-index-b.branch [
-      | then-index-b+in-ok-push v ↦ spans_more p a side w x cs k c.index.result.now before after v.span-at.result whole l c.index.ensures v.if-index-b.true (search rules) v.span-at.ensures c.loop-k.invariant
+      | then-index-b+in_ok-push v ↦ spans_more p a side w x cs k c.index.result.now before after v.span_at.result whole l c.index.ensures v.if-index-b.true (search rules) v.span_at.ensures c.loop-k.invariant
       | else-index-b v ↦ subst (λ (us : List Span). map span_of us ++ spans_from p a side w x (k + 1 + 1) (drop (k + 1) cs) ≡ whole) (sym (ap vec_items v.spans-is)) (spans_past p a side w x cs k c.index.result.now before whole l c.index.ensures v.if-index-b.false c.loop-k.invariant)
     ]
 

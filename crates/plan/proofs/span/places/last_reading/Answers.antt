@@ -17,8 +17,8 @@ loop-t-preserved c =
     let whole = last_of c.args.otherwise (places f 0 (production_of p).steps) in
     let l : t < length xs = search rules in
     elim c.if-reads.branch [
-      | then-reads w ↦ (carried_to step_of f last_of (λ n u. u) (λ n u us. refl) xs t c.index.result.now c.reads.result c.loop-t.last c.if-reads.last whole l c.index.ensures c.reads.ensures w.if-reads.true w.last_is c.loop-t.invariant.0, omega (arith, w.last_is))
-      | else-reads w ↦ (carried_past step_of f last_of (λ n u. u) (λ n u us. refl) xs t c.index.result.now c.reads.result c.loop-t.last c.if-reads.last whole l c.index.ensures c.reads.ensures w.if-reads.false w.last_is c.loop-t.invariant.0, omega (arith, w.last_is, c.loop-t.invariant.1))
+      | then-reads w ↦ (carried_to step_of f last_of (λ n u. u) (λ n u us. refl) xs t c.index.result.now c.reads.result c.loop-t.last c.if-reads.last whole l c.index.ensures c.reads.ensures w.if-reads.true w.last-is c.loop-t.invariant.0, omega (arith, w.last-is))
+      | else-reads w ↦ (carried_past step_of f last_of (λ n u. u) (λ n u us. refl) xs t c.index.result.now c.reads.result c.loop-t.last c.if-reads.last whole l c.index.ensures c.reads.ensures w.if-reads.false w.last-is c.loop-t.invariant.0, omega (arith, w.last-is, c.loop-t.invariant.1))
     ]
 
 pub returns : goal.returns

@@ -15,8 +15,8 @@ bounds-sections-o c =
     let below = found_below attribute_of (vec_items g.attributes) c.args.o.attribute (attribute_of c.in_ok-b.b) c.in_ok-b.ensures in
     omega arith
 
-pub offset-bounds-sections-o : goal.offset-bounds-sections-o
-offset-bounds-sections-o c = let below = bounds-sections-o c in search rules
+pub offset_bounds-sections-o : goal.offset_bounds-sections-o
+offset_bounds-sections-o c = let below = bounds-sections-o c in search rules
 
 pub returns : goal.returns
 returns c =

@@ -1,7 +1,6 @@
 use Rattle.std.proofs.Common.{List, ◌++◌, map, take, vec_items, ap, ◌∙◌}
 use Rattle.std.proofs.lemmas.List.{take_all, map_push}
 use Rattle.model.specs.Spans as Spans
-use Rattle.model.specs.Tables as Tables
 use Rattle.model.specs.Tables.{on_stack}
 use Rattle.plan.specs.Views.{span_of, stack_span_of}
 use Rattle.plan.specs.declared.span.Span.{Span}
