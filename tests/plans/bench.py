@@ -14,9 +14,13 @@ import argparse
 import os
 import statistics
 import subprocess
+import sys
 import tempfile
 import time
 from collections import defaultdict
+
+# the reader and the maker of schemes stand one folder up; what stands here under the same name comes first
+sys.path.append(os.path.dirname(os.path.dirname(os.path.abspath(__file__))))
 
 from edges import HOUSE, tokens_to_bytes
 from planner import BROKEN, EMPTY, HELD, Walk, parts_of

@@ -25,11 +25,14 @@ from collections import Counter
 from functools import cache
 from typing import Callable, Iterable, Iterator, NamedTuple, Optional
 
+# the reader and the maker of schemes stand one folder up; what stands here under the same name comes first
+sys.path.append(os.path.dirname(os.path.dirname(os.path.abspath(__file__))))
+
 import planner
 from edges import edges
 from reader import Refusal, check
-from schemes import RandomCase, random_case
 from shapes import SHAPES, SMALL_SHAPES, shaped_cases
+from sketches import RandomCase, random_case
 
 DEFAULT_SEED = 1
 DEFAULT_CASES = 1500

@@ -9,7 +9,8 @@ and `0a=1b2b` the EVAL of a rule for 0a with the arguments 1b and 2b.
 
 from __future__ import annotations
 
-from schemes import Attr, Eval, Leave, Place, Prod, Rule, Sketch, Sym, Visit
+from schemes import Attr, Eval, Leave, Place, Prod, Rule, Sym, Visit
+from schemes import Plan as Sketch
 
 
 def written(text: str) -> Sketch:

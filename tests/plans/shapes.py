@@ -12,7 +12,9 @@ from dataclasses import dataclass
 from random import Random
 from typing import Iterator
 
-from schemes import MAX_WORDS, Attr, Eval, Leave, Place, Prod, RandomCase, Rule, Sketch, Sym, Visit, to_bytes
+from schemes import MAX_WORDS, Attr, Eval, Leave, Place, Prod, Rule, Sym, Visit, to_bytes
+from schemes import Plan as Sketch
+from sketches import RandomCase
 
 
 @dataclass(frozen=True)
