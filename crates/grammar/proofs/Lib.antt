@@ -1,3 +1,1 @@
-pub mod Lookups
-pub mod Counts
-pub mod Searches
+pub mod Seen

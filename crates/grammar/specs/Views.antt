@@ -12,6 +12,7 @@ use Rattle.grammar.specs.declared.parts.Step.{Step}
 use Rattle.grammar.specs.declared.parts.Step.TheVariants.{Eval, Visit, Leave}
 use Rattle.grammar.specs.declared.parts.Production.{Production}
 use Rattle.grammar.specs.declared.parts.Grammar.{Grammar}
+use Rattle.grammar.specs.declared.parts.Scope.{Scope}
 
 -- an answer of the code as the model's
 abbrev pub option_of : {X Y : Type 0} → (X → Y) → Option X → Plain.Option Y
@@ -48,3 +49,10 @@ production_of p = record { left = p.left; children = vec_items p.children; rules
 -- the scheme that a grammar is
 abbrev pub grammar_of : Grammar → Model.Scheme
 grammar_of g = record { visits = map visit_of (vec_items g.visits); attributes = map attribute_of (vec_items g.attributes); productions = map production_of (vec_items g.productions) }
+
+-- the scheme and the production of a scope
+abbrev pub scheme_in : Scope → Model.Scheme
+scheme_in c = grammar_of c.grammar.now
+
+abbrev pub production_in : Scope → Model.Production
+production_in c = production_of c.production.now

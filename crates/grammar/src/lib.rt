@@ -5,6 +5,6 @@ mod parts;
 mod refusal;
 
 pub use parts::{
-    Attribute, ChildNumber, Grammar, Occurrence, Production, Rule, Side, Step, VisitNumber,
+    Attribute, ChildNumber, Grammar, Occurrence, Production, Rule, Scope, Side, Step, VisitNumber,
 };
 pub use refusal::{Refusal, lines_stand};

@@ -17,7 +17,7 @@ pub enum Side {
 }
 
 // A figure of a symbol, known before (inherited) or by the end of (synthesized) its visit.
-#[derive(Clone, Copy)]
+#[derive(Clone, Copy, PartialEq, Eq)]
 pub struct Attribute {
     pub symbol: usize,
     pub side: Side,
@@ -25,7 +25,8 @@ pub struct Attribute {
 }
 
 // A position of a production with an attribute of its symbol: 0 is the left symbol, 1 to 6 are the children.
-#[derive(Clone, Copy)]
+// The position is a number, since a word gives one from 0 to 15 before it is judged, and a symbol is looked up by it; with an enum both would turn it back.
+#[derive(Clone, Copy, PartialEq, Eq)]
 pub struct Occurrence {
     pub position: usize,
     pub attribute: usize,
@@ -39,7 +40,7 @@ pub struct Rule {
     pub arguments: Vec<Occurrence>,
 }
 
-#[derive(Clone, Copy)]
+#[derive(Clone, Copy, PartialEq, Eq)]
 pub enum Step {
     Eval(usize),
     Visit(ChildNumber, VisitNumber),
@@ -60,4 +61,11 @@ pub struct Grammar {
     pub visits: Vec<VisitNumber>,
     pub attributes: Vec<Attribute>,
     pub productions: Vec<Production>,
+}
+
+// A production with its grammar, in which its occurrences have attributes.
+#[derive(Clone, Copy)]
+pub struct Scope<'g> {
+    pub grammar: &'g Grammar,
+    pub production: &'g Production,
 }

@@ -44,6 +44,7 @@ pub enum Refusal {
     TooEarly { production: usize, step: usize },
 }
 
+// The two errors of an allocation are two types, and a rule of the check refuses an impl that a macro of ours writes: so there are two impls.
 impl From<AllocError> for Refusal {
     ghost from_gives = { λ _ r. r ≡ Memory };
 

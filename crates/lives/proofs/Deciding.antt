@@ -1,19 +1,18 @@
 -- Rounds over a tape add entries to the table until it says whether lives alternate.
-use Rattle.std.proofs.Common.{◌≡◌, ℕ, ◌+◌, ◌*◌, ◌<◌, Bool, true, false, cond, not, ◌&&◌, ◌||◌, ◌⊎◌, List, [], ◌∷◌, length, replicate, Decides, sym, refl, ap, ◌∙◌, subst, inl, inr, arith}
-use Rattle.std.proofs.lemmas.Bool.{and_parts, and_from, and_cases, ltb-true, not-true, not_from_false, both_ways}
+use Rattle.std.proofs.Common.{◌≡◌, ℕ, ◌+◌, ◌*◌, ◌<◌, Bool, true, false, cond, not, ◌⊎◌, List, [], ◌∷◌, length, Decides, sym, refl, ap, ◌∙◌, inl, inr, arith}
+use Rattle.std.proofs.lemmas.Bool.{and_parts, and_from, ltb-true, not-true, not_from_false, both_ways}
 use Rattle.model.specs.Formed.{Formed}
 use Rattle.model.specs.Lists.{every}
 use Rattle.model.specs.Loose.{Cell, empty, held, broken, Alternate}
-use Rattle.model.specs.Outcomes.{Cells, at, over, only, Filling, Sound, Closed}
+use Rattle.model.specs.Outcomes.{at, Filling, Sound, Closed}
 use Rattle.model.specs.Scheme.{Scheme}
 use Rattle.model.specs.Tape.{Event, opens, ends, begins, visits, leaves, Machine, act, play, ready, play_three, tape}
 use Rattle.model.proofs.Plan.Exists.{grounded}
 use Rattle.model.proofs.Plan.Played.{play_three_is}
-use Rattle.model.proofs.Plan.Rounds.{Sized, put_all_progress, round_turn, blank_sound}
+use Rattle.model.proofs.Plan.Rounds.{Sized, put_all_progress, round_turn}
 use Rattle.model.proofs.Plan.Table.{falses, Progress, progress_none, progress_both}
 use Rattle.model.proofs.Plan.Witness.{alternate_clear, clear_alternate}
 use Rattle.lives.specs.Playing.{in_range, clear}
-use Rattle.lives.proofs.Flags.{or_none}
 
 -- the head of the tape has its place in a table for n symbols
 record Ready (n : ℕ) (st : Machine) : Type 0 where
@@ -70,9 +69,6 @@ pub record Going (s : Scheme) (members : ℕ → Bool) (t : List Bool) (changed 
   pub sound : Sound s members (at t)
   pub closed : changed ≡ false → Closed s members (at t)
 
-pub going_first : (s : Scheme) (members : ℕ → Bool) (n : ℕ) (t : List Bool) → t ≡ replicate n false → Going s members t true
-going_first s members n t e = record { sound = subst (λ (u : List Bool). Sound s members (at u)) (sym e) (blank_sound s members n); closed = λ z. absurd (both_ways true z refl) }
-
 pub going_on : (s : Scheme) → Formed s → (members : ℕ → Bool) (es : List Event) (t u : List Bool) (a b : Bool) → es ≡ tape s → Sized s t → Going s members t a → record { table = u; changed = b } ≡ play_three members es (record { table = t; changed = false }) → Going s members u b
 going_on s formed members es t u a b tape_is sized going e =
     let w : Filling = record { table = t; changed = false } in
@@ -81,16 +77,12 @@ going_on s formed members es t u a b tape_is sized going e =
     record { sound = next.1; closed = next.2 }
 
 -- at the end: nothing changed, or the table is no longer clear
-pub going_last : (s : Scheme) (members : ℕ → Bool) (t : List Bool) (changed : Bool) → Going s members t changed → (changed && clear t) ≡ false → Decides (clear t) (Alternate s members)
+pub going_last : (s : Scheme) (members : ℕ → Bool) (t : List Bool) (changed : Bool) → Going s members t changed → (changed ≡ false) ⊎ (clear t ≡ false) → Decides (clear t) (Alternate s members)
 going_last s members t changed going end = (
-  λ e. let parts = and_parts (not (at t 0 1 empty held)) (not (at t 0 1 empty broken)) e in clear_alternate s members (at t) (going.closed (still (and_cases changed (clear t) end) e)) (not-true (at t 0 1 empty held) parts.0, not-true (at t 0 1 empty broken) parts.1),
+  λ e. let parts = and_parts (not (at t 0 1 empty held)) (not (at t 0 1 empty broken)) e in clear_alternate s members (at t) (going.closed (still end e)) (not-true (at t 0 1 empty held) parts.0, not-true (at t 0 1 empty broken) parts.1),
   λ alternate. let none-such = alternate_clear s members (at t) going.sound alternate in and_from (not (at t 0 1 empty held)) (not (at t 0 1 empty broken)) (not_from_false (at t 0 1 empty held) none-such.0) (not_from_false (at t 0 1 empty broken) none-such.1),
 )
   where
     still : (changed ≡ false) ⊎ (clear t ≡ false) → clear t ≡ true → changed ≡ false
     still (inl e) h = e
     still (inr e) h = absurd (both_ways (clear t) e h)
-
--- from the empty cell alone
-pub clear-read : (t : List Bool) (f : Cells) → f ≡ over (at t) 0 1 (only empty) → (not f.h && not f.b) ≡ clear t
-clear-read t f e = ap (λ (g : Cells). not g.h && not g.b) e ∙ ap (λ (x : Bool). not x && not (at t 0 1 empty broken || false)) (or_none (at t 0 1 empty held)) ∙ ap (λ (x : Bool). not (at t 0 1 empty held) && not x) (or_none (at t 0 1 empty broken))

@@ -4,10 +4,11 @@ use Rattle.model.specs.Loose.{empty, held, broken}
 use Rattle.model.specs.Outcomes.{at}
 use Rattle.model.specs.Tape.{Event, opens, ends, begins, visits, leaves, Machine}
 use Rattle.lives.specs.declared.head.Head.{Head}
-use Rattle.lives.specs.Views.{cells_of}
+use Rattle.lives.specs.declared.table.Table.{Table}
+use Rattle.lives.specs.Views.{cells_of, filling_of, symbols_in}
 
-abbrev pub machine_of : Head → List Bool → Machine
-machine_of q t = record { left = q.left; section = q.section; cells = cells_of q.cells; filling = record { table = t; changed = q.changed } }
+abbrev pub machine_of : Head → Table → Machine
+machine_of q t = record { left = q.left; section = q.section; cells = cells_of q.cells; filling = filling_of t }
 
 -- the symbols of the event are below n, and its sections and the next are among the six of a table
 abbrev pub in_range : ℕ → Event → Bool
@@ -17,9 +18,10 @@ in_range n (begins a) = true
 in_range n (visits x j) = nat_lt x n && nat_lt j 6
 in_range n (leaves l) = nat_lt l 5
 
-pub record Placed (n : ℕ) (q : Head) : Type 0 where
-  pub left_below : q.left < n
-  pub section-below : q.section < 6
+-- the table has section i of symbol x
+pub record HasSection (t : Table) (x i : ℕ) : Type 0 where
+  pub symbol_below : x < symbols_in t
+  pub section-below : i < 6
 
 -- from the empty cell, a walk of the first section of symbol 0 comes to no other
 abbrev pub clear : List Bool → Bool

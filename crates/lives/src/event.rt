@@ -1,6 +1,4 @@
 // What happens along a production's steps, as far as lives and outcomes go.
-use grammar::VisitNumber;
-
 #[derive(Clone, Copy)]
 pub enum Event {
     // a production of the symbol begins
@@ -9,8 +7,8 @@ pub enum Event {
     Ends(usize),
     // the life of the attribute begins
     Begins(usize),
-    // a section of the symbol is visited
-    Visits(usize, VisitNumber),
-    // a section ends with its LEAVE
-    Leaves(VisitNumber),
+    // the section of the symbol is visited
+    Visits { symbol: usize, section: usize },
+    // the section ends with its LEAVE
+    Leaves { section: usize },
 }

@@ -1,11 +1,12 @@
 // Lives of attributes along a scheme's productions, and whether those of some attributes alternate.
 #![tactic(auto)]
 
-mod alternation;
+mod cells;
 mod event;
 mod head;
 mod lives;
-mod outcomes;
+mod play;
+mod table;
 mod tape;
 mod uses;
 

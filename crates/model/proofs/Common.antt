@@ -1,3 +1,4 @@
 pub mod ListFacts
+pub mod Seen
 pub mod Basics
 pub mod Form

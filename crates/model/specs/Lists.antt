@@ -1,5 +1,6 @@
 -- Words on lists that the other pages use. Assumes nothing.
-use Rattle.std.specs.Prelude.{◌≡◌, ℕ, zero, suc, max, Bool, true, false, cond, ◌&&◌, ◌||◌, List, [], ◌∷◌}
+use Rattle.std.specs.Prelude.{◌≡◌, ℕ, zero, suc, max, Bool, cond, List, [], ◌∷◌}
+use Rattle.std.specs.List.{list_any, list_all, filter}
 use Rattle.std.proofs.Math.Option.{some}
 use Rattle.std.proofs.Math.ListN.{get_elem?}
 
@@ -8,20 +9,17 @@ abbrev pub Has {ℓ} : {A : Type ℓ} → List A → ℕ → A → Type ℓ
 Has xs i x = get_elem? xs i ≡ some x
 
 -- some thing passes the test, and every one does
-abbrev pub any {ℓ} : {A : Type ℓ} → (A → Bool) → List A → Bool
-any f [] = false
-any f (x ∷ xs) = f x || any f xs
+abbrev pub any : {A : Type 0} → (A → Bool) → List A → Bool
+any = list_any
 
-abbrev pub every {ℓ} : {A : Type ℓ} → (A → Bool) → List A → Bool
-every f [] = true
-every f (x ∷ xs) = f x && every f xs
+abbrev pub every : {A : Type 0} → (A → Bool) → List A → Bool
+every = list_all
 
 -- the things that pass the test, and how many they are
-abbrev pub keep {ℓ} : {A : Type ℓ} → (A → Bool) → List A → List A
-keep f [] = []
-keep f (x ∷ xs) = cond (f x) (x ∷ keep f xs) (keep f xs)
+abbrev pub keep : {A : Type 0} → (A → Bool) → List A → List A
+keep = filter
 
-abbrev pub count {ℓ} : {A : Type ℓ} → (A → Bool) → List A → ℕ
+abbrev pub count : {A : Type 0} → (A → Bool) → List A → ℕ
 count f [] = 0
 count f (x ∷ xs) = cond (f x) (suc (count f xs)) (count f xs)
 

@@ -33,6 +33,12 @@ leave_numbers (eval r ∷ ts) = leave_numbers ts
 leave_numbers (visit k j ∷ ts) = leave_numbers ts
 leave_numbers (leave i ∷ ts) = i ∷ leave_numbers ts
 
+-- the rule that a step evaluates
+abbrev pub step_rule : Production → Step → Option Rule
+step_rule p (eval r) = get_elem? p.rules r
+step_rule p (visit k j) = none
+step_rule p (leave i) = none
+
 abbrev pub rule_uses : Option Rule → Occurrence → Bool
 rule_uses none o = false
 rule_uses (some r) o = any (same_occurrence o) r.arguments

@@ -4,7 +4,8 @@ use Rattle.std.specs.Prelude.{ℕ, zero, suc, ◌+◌, ◌*◌, max, Bool, true,
 use Rattle.std.proofs.Math.Option.{Option, none, some}
 use Rattle.std.proofs.Math.ListN.{get_elem?}
 use Rattle.model.specs.Lists.{count, keep, numbered}
-use Rattle.model.specs.Scheme.{Attribute, Occurrence, Rule, Step, eval, visit, leave, Production, Scheme}
+use Rattle.model.specs.Sequences.{step_rule}
+use Rattle.model.specs.Scheme.{Attribute, Occurrence, Rule, Step, Production, Scheme}
 use Rattle.model.specs.Spans.{Sections, attribute_sections, Span, span, spans, open_during}
 use Rattle.model.specs.Plan.{Letter, letter, is_stacked}
 
@@ -56,12 +57,6 @@ opened hs t = names (keep (λ h. nat_eq h.span.opens_at t) hs)
 
 abbrev pub closed : List StackSpan → ℕ → List ℕ
 closed hs t = names (keep (λ h. nat_eq h.span.closes_at t) hs)
-
--- the rule that a step evaluates
-abbrev pub step_rule : Production → Step → Option Rule
-step_rule p (eval r) = get_elem? p.rules r
-step_rule p (visit k j) = none
-step_rule p (leave i) = none
 
 abbrev pub argument_depths : Scheme → Production → List StackSpan → ℕ → Option Rule → List ℕ
 argument_depths s p hs t none = []

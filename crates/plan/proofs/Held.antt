@@ -1,52 +1,56 @@
--- The spans that a production has on stacks, attribute by attribute; the sections of the attributes. Assumes nothing.
-use Rattle.std.proofs.Common.{◌≡◌, ℕ, suc, ◌+◌, ◌<◌, ◌≤◌, cond, List, [], ◌++◌, map, length, get_or, drop, sym, ap, ◌∙◌, arith}
-use mathlib.Core.Option.{some}
+-- The spans that a production has on stacks, attribute by attribute. Assumes nothing.
+use Rattle.std.proofs.Common.{◌≡◌, ℕ, zero, suc, ◌+◌, ◌≤◌, min, cond, List, [], ◌∷◌, ◌++◌, length, drop, sym, refl, ap, ◌∙◌, arith, inl, inr}
+use mathlib.Core.Option.{Option, none}
 use lib.ListN.{get_elem?}
-use Rattle.std.proofs.lemmas.List.{append_assoc, append-nil, length-map}
-use Rattle.model.specs.Lists.{numbered}
+use Rattle.std.proofs.lemmas.List.{append_assoc, append-nil, drop_all}
+use Rattle.model.specs.Lists.{Has}
 use Rattle.model.specs.Scheme.{Attribute, Production, Scheme}
-use Rattle.model.specs.Spans.{Sections, attribute_sections, spans}
-use Rattle.model.specs.Plan.{Letter, letter_or_kept, letter, is_stacked}
+use Rattle.model.specs.Spans.{spans}
+use Rattle.model.specs.Plan.{Letter, letter_or_kept, is_stacked}
 use Rattle.model.specs.Tables.{StackSpan, on_stack, stack_spans_from}
-use Rattle.grammar.proofs.Lookups.{at_read}
-use Rattle.plan.proofs.Rows.{drop-read, drop_past, numbered_length, numbered_has}
+use Rattle.model.proofs.Common.ListFacts.{le_or_lt, some_same, some_none}
 
--- SECTIONS
+-- what is left of a list from place i on, where x is
+drop-has : {X : Type 0} (xs : List X) (i : ℕ) (x : X) → Has xs i x → drop i xs ≡ x ∷ drop (suc i) xs
+drop-has [] i x h = absurd (some_none x h)
+drop-has {X} (y ∷ ys) zero x h = ap (λ (z : X). z ∷ ys) (some_same y x h)
+drop-has (y ∷ ys) (suc i) x h = drop-has ys i x h
 
-same_some : {X : Type 0} (x y : X) → some x ≡ some y → x ≡ y
-same_some x y e = cc
+none_there : {X : Type 0} (xs : List X) (i : ℕ) → length xs ≤ i → get_elem? xs i ≡ none
+none_there [] i l = refl
+none_there (x ∷ xs) zero l = absurd (omega arith)
+none_there (x ∷ xs) (suc i) l = none_there xs i (omega arith)
 
--- what a row of the code says of attribute i, where the row stands for all attributes' sections
-pub section_known : {X : Type 0} (f : X → Sections) (s : Scheme) (bs : List Attribute) (xs : List X) (i : ℕ) (x : X) (b : Attribute) → map f xs ≡ numbered (attribute_sections s) 0 bs → i < length xs → x ≡ get_or xs i x → some b ≡ get_elem? bs i → f x ≡ attribute_sections s i b
-section_known f s bs xs i x b e l here is =
-    same_some (f x) (attribute_sections s i b) (at_read f xs i x l here ∙ ap (λ (ws : List Sections). get_elem? ws i) e ∙ numbered_has (attribute_sections s) 0 i bs b (sym is) ∙ ap (λ (m : ℕ). some (attribute_sections s m b)) (omega arith))
-
-pub section-read : {X Y : Type 0} (f : X → Sections) (g : Y → Attribute) (s : Scheme) (xs : List X) (ys : List Y) (i : ℕ) (x : X) (y : Y) → map f xs ≡ numbered (attribute_sections s) 0 (map g ys) → i < length xs → x ≡ get_or xs i x → i < length ys → y ≡ get_or ys i y → f x ≡ attribute_sections s i (g y)
-section-read f g s xs ys i x y e l here m there = section_known f s (map g ys) xs i x (g y) e l here (at_read g ys i y m there)
-
-pub sections_many : {X Y : Type 0} (f : X → Sections) (g : Y → Attribute) (s : Scheme) (xs : List X) (ys : List Y) → map f xs ≡ numbered (attribute_sections s) 0 (map g ys) → length xs ≡ length ys
-sections_many f g s xs ys e = sym (length-map xs f) ∙ ap (λ (ws : List Sections). length ws) e ∙ numbered_length (attribute_sections s) 0 (map g ys) ∙ length-map ys g
-
--- SPANS
-
-module _ {X Y : Type 0} (f : X → Letter) (g : Y → Attribute) (s : Scheme) (p : Production) where
-  letter-read : (xs : List X) (i : ℕ) (x : X) → i < length xs → x ≡ get_or xs i x → letter (map f xs) i ≡ f x
-  letter-read xs i x l e = ap letter_or_kept (sym (at_read f xs i x l e))
-
+module _ (s : Scheme) (p : Production) (ls : List Letter) where
   -- those of the attributes before i are there, the others are to come
-  abbrev pub Holding : List X → List Y → ℕ → List StackSpan → Type 0
-  Holding xs ys i hs = hs ++ stack_spans_from s (map f xs) p i (drop i (map g ys)) ≡ stack_spans_from s (map f xs) p 0 (map g ys)
+  abbrev pub Holding : ℕ → List StackSpan → Type 0
+  Holding i hs = hs ++ stack_spans_from s ls p i (drop i s.attributes) ≡ stack_spans_from s ls p 0 s.attributes
 
-  pub holding_more : (xs : List X) (ys : List Y) (i : ℕ) (x : X) (y : Y) (hs hs' : List StackSpan) → i < length xs → x ≡ get_or xs i x → i < length ys → y ≡ get_or ys i y → hs' ≡ hs ++ cond (is_stacked (f x)) (on_stack i (spans s i (g y) p)) [] → Holding xs ys i hs → Holding xs ys (i + 1) hs'
-  holding_more xs ys i x y hs hs' l here m there e h =
+  -- those of attribute i, which is b, by its letter, and of the next ones
+  abbrev by_letter : ℕ → Attribute → List Attribute → Option Letter → List StackSpan
+  by_letter i b bs l = cond (is_stacked (letter_or_kept l)) (on_stack i (spans s i b p)) [] ++ stack_spans_from s ls p (suc i) bs
+
+  pub holding_more : (i n : ℕ) (b c : Attribute) (l : Letter) (hs more : List StackSpan) → Has s.attributes i b → Has ls i l → n ≡ i → c ≡ b → more ≡ hs ++ cond (is_stacked l) (on_stack n (spans s n c p)) [] → Holding i hs → Holding (i + 1) more
+  holding_more i n b c l hs more hb hl en ec e h =
       let on : i + 1 ≡ suc i = omega arith in
-      let mine = cond (is_stacked (f x)) (on_stack i (spans s i (g y) p)) [] in
-      let rest = stack_spans_from s (map f xs) p (suc i) (drop (suc i) (map g ys)) in
-      ap (λ (n : ℕ). hs' ++ stack_spans_from s (map f xs) p n (drop n (map g ys))) on
-      ∙ ap (λ (zs : List StackSpan). zs ++ rest) e
+      let mine = cond (is_stacked l) (on_stack i (spans s i b p)) [] in
+      let rest = stack_spans_from s ls p (suc i) (drop (suc i) s.attributes) in
+      ap (λ (n : ℕ). more ++ stack_spans_from s ls p n (drop n s.attributes)) on
+      ∙ ap (λ (zs : List StackSpan). zs ++ rest) (e ∙ (λ j. hs ++ cond (is_stacked l) (on_stack (en j) (spans s (en j) (ec j) p)) []))
       ∙ append_assoc hs mine rest
-      ∙ sym (ap (λ (bs : List Attribute). hs ++ stack_spans_from s (map f xs) p i bs) (drop-read g ys i y m there) ∙ ap (λ (k : Letter). hs ++ (cond (is_stacked k) (on_stack i (spans s i (g y) p)) [] ++ rest)) (letter-read xs i x l here))
+      ∙ sym (ap (λ (bs : List Attribute). hs ++ stack_spans_from s ls p i bs) (drop-has s.attributes i b hb) ∙ ap (λ (k : Option Letter). hs ++ by_letter i b (drop (suc i) s.attributes) k) hl)
       ∙ h
 
-  pub holding_all : (xs : List X) (ys : List Y) (i : ℕ) (hs : List StackSpan) → length ys ≤ i → Holding xs ys i hs → hs ≡ stack_spans_from s (map f xs) p 0 (map g ys)
-  holding_all xs ys i hs l h = sym (append-nil hs) ∙ sym (ap (λ (bs : List Attribute). hs ++ stack_spans_from s (map f xs) p i bs) (drop_past g ys i l)) ∙ h
+  -- an attribute past the letters has none
+  none_past : (i : ℕ) (bs : List Attribute) → length ls ≤ i → stack_spans_from s ls p i bs ≡ []
+  none_past i [] l = refl
+  none_past i (b ∷ bs) l = ap (by_letter i b bs) (none_there ls i l) ∙ none_past (suc i) bs (omega arith)
+
+  pub holding_all : (i : ℕ) (hs : List StackSpan) → min (length s.attributes) (length ls) ≤ i → Holding i hs → hs ≡ stack_spans_from s ls p 0 s.attributes
+  holding_all i hs l h = sym (append-nil hs) ∙ sym (ap (λ (zs : List StackSpan). hs ++ zs) none_to_come) ∙ h
+    where
+      none_to_come : stack_spans_from s ls p i (drop i s.attributes) ≡ []
+      none_to_come = elim (le_or_lt (length s.attributes) i) [
+        | inl past ↦ ap (stack_spans_from s ls p i) (drop_all i s.attributes past)
+        | inr below ↦ none_past i (drop i s.attributes) (omega arith)
+      ]

@@ -1,8 +1,8 @@
 -- Sets of one attribute, and letters given one after the other. Assumes nothing.
-use Rattle.std.proofs.Common.{◌≡◌, ℕ, zero, suc, ◌+◌, ◌<◌, Bool, true, false, eqb, ◌⊎◌, List, [], ◌∷◌, ◌++◌, map, length, get_or, set, replicate, Decides, sym, refl, ap, ◌∙◌, subst, inl, inr, arith}
+use Rattle.std.proofs.Common.{◌≡◌, ℕ, zero, suc, ◌+◌, ◌<◌, Bool, true, false, eqb, ◌⊎◌, List, [], ◌∷◌, ◌++◌, map, length, get_or, set, Decides, sym, refl, ap, ◌∙◌, subst, inl, inr, arith}
 use mathlib.Core.Option.{some}
 use lib.ListN.{get_elem?}
-use Rattle.std.proofs.lemmas.List.{get_or-set_same, get_or-set_other, set-set, map_push, length-append}
+use Rattle.std.proofs.lemmas.List.{get_or-set_same, get_or-set_other, map_push, length-append, length-map}
 use Rattle.std.proofs.lemmas.Bool.{true≢false, cases_eq, eq-eqb, ne_eqb}
 use Rattle.model.specs.Lists.{Has}
 use Rattle.model.specs.Scheme.{Attribute, Scheme}
@@ -11,11 +11,9 @@ use Rattle.model.specs.Spans.{stacks}
 use Rattle.model.specs.Plan as Model
 use Rattle.model.specs.Plan.{S, K, Lettered}
 use Rattle.model.proofs.Spans.Conditions.{stacks_told, stacks_tested}
-use Rattle.lives.specs.declared.lives.Lives.{Lives}
 use Rattle.lives.specs.Views.{member}
-use Rattle.lives.specs.Whole.{Compiled}
 use Rattle.plan.specs.declared.letter.Letter.{Letter}
-use Rattle.plan.specs.Lettering.{Clear, Same, Lettering}
+use Rattle.plan.specs.Flags.{Clear}
 use Rattle.plan.specs.Views.{letter_of}
 
 -- A SET OF ONE
@@ -30,21 +28,6 @@ module _ (ms : List Bool) (clear : Clear ms) (a : ℕ) (l : a < length ms) where
           go : (a ≡ k) ⊎ (a ≡ k → ⊥) → get_or (set ms a true) k false ≡ eqb a k
           go (inl e) = subst (λ (n : ℕ). get_or (set ms a true) n false ≡ true) e (get_or-set_same ms a true false l) ∙ sym (eq-eqb a k e)
           go (inr off) = get_or-set_other ms a k true false (λ e. off (sym e)) ∙ clear k ∙ sym (ne_eqb a k off)
-
-  pub clear_again : Clear (set (set ms a true) a false)
-  clear_again k = ap (λ (xs : List Bool). get_or xs k false) (set-set ms a true false) ∙ go (cases_eq a k)
-    where
-      go : (a ≡ k) ⊎ (a ≡ k → ⊥) → get_or (set ms a false) k false ≡ false
-      go (inl e) = subst (λ (n : ℕ). get_or (set ms a false) n false ≡ false) e (get_or-set_same ms a false false l)
-      go (inr off) = get_or-set_other ms a k false false (λ e. off (sym e)) ∙ clear k
-
-pub clear_flags : (n : ℕ) → Clear (replicate n false)
-clear_flags zero k = refl
-clear_flags (suc n) zero = refl
-clear_flags (suc n) (suc k) = clear_flags n k
-
-pub compiled_same : (s : Scheme) (v w : Lives) → Compiled s v → Same w v → Compiled s w
-compiled_same s v w c e = record { tape_is = e.0 ∙ c.tape_is; symbols_are = e.1 ∙ c.symbols_are }
 
 -- ONE LETTER
 
@@ -77,9 +60,9 @@ last_or_before (w ∷ xs) x (suc k) y h = go (last_or_before xs x k y h)
     go (inl e) = inl e
     go (inr e) = inr (ap suc e.0, e.1)
 
-map-length : (ls : List Letter) → length (map letter_of ls) ≡ length ls
-map-length [] = refl
-map-length (l ∷ ls) = ap suc (map-length ls)
+-- the letters of the first n attributes
+abbrev pub Lettering : Scheme → ℕ → List Letter → Type 0
+Lettering s n ls = (length ls ≡ n) × ((a : ℕ) (l : Model.Letter) → Has (map letter_of ls) a l → Model.Lettered s a l)
 
 pub lettering_more : (s : Scheme) (n : ℕ) (ls ks : List Letter) (l : Letter) → ks ≡ ls ++ l ∷ [] → Lettered s n (letter_of l) → Lettering s n ls → Lettering s (n + 1) ks
 lettering_more s n ls ks l e here h = (ap (λ (xs : List Letter). length xs) e ∙ length-append ls (l ∷ []) ∙ ap (λ (m : ℕ). m + 1) h.0, each)
@@ -89,7 +72,7 @@ lettering_more s n ls ks l e here h = (ap (λ (xs : List Letter). length xs) e �
       where
         go : Has (map letter_of ls) a k ⊎ ((a ≡ length (map letter_of ls)) × (letter_of l ≡ k)) → Lettered s a k
         go (inl i) = h.1 a k i
-        go (inr i) = subst (λ (j : Model.Letter). Lettered s a j) i.1 (subst (λ (m : ℕ). Lettered s m (letter_of l)) (sym (i.0 ∙ map-length ls ∙ h.0)) here)
+        go (inr i) = subst (λ (j : Model.Letter). Lettered s a j) i.1 (subst (λ (m : ℕ). Lettered s m (letter_of l)) (sym (i.0 ∙ length-map ls letter_of ∙ h.0)) here)
 
 pub planned_by : (s : Scheme) (n : ℕ) (ls : List Letter) → n ≡ length s.attributes → Lettering s n ls → Model.Planned s (map letter_of ls)
-planned_by s n ls e h = (map-length ls ∙ h.0 ∙ e, h.1)
+planned_by s n ls e h = (length-map ls letter_of ∙ h.0 ∙ e, h.1)

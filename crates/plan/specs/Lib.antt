@@ -1,7 +1,10 @@
 pub mod Views
-pub mod Changes
-pub mod Small
+pub mod Figures
+pub mod Placed
+pub mod Layouts
 pub mod Depths
-pub mod Lettering
+pub mod Flags
+pub mod Stacks
+pub mod SectionBounds
 pub mod Settled
 pub mod Text

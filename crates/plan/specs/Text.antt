@@ -1,5 +1,6 @@
 -- The line that says a plan.
-use Rattle.std.specs.Prelude.{ℕ, List, [], ◌∷◌, ◌++◌, codes}
+use Rattle.std.specs.Prelude.{ℕ, List, ◌++◌, codes}
+use Rattle.std.specs.List.{flat_map}
 use Rattle.model.specs.Plan.{Letter, C, S, K}
 
 abbrev pub mark : Letter → List ℕ
@@ -7,10 +8,6 @@ mark C = codes "C"
 mark S = codes "S"
 mark K = codes "K"
 
-abbrev pub marks : List Letter → List ℕ
-marks [] = []
-marks (l ∷ ls) = mark l ++ marks ls
-
 -- `plan`, a space, and a letter for each attribute
 abbrev pub plan_line : List Letter → List ℕ
-plan_line ls = codes "plan " ++ marks ls
+plan_line ls = codes "plan " ++ flat_map mark ls

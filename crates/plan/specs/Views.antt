@@ -3,7 +3,9 @@ use Rattle.std.specs.Prelude.{map, vec_items}
 use Rattle.model.specs.Plan as Plans
 use Rattle.model.specs.Spans as Spans
 use Rattle.model.specs.Tables as Tables
-use Rattle.grammar.specs.Views.{visit_of}
+use Rattle.model.specs.Scheme as Scheme
+use Rattle.grammar.specs.Views.{visit_of, production_of}
+use Rattle.plan.specs.declared.bounded.Bounded.{Bounded}
 use Rattle.plan.specs.declared.letter.Letter.{Letter}
 use Rattle.plan.specs.declared.letter.Letter.TheVariants.{Single, Stacked, Kept}
 use Rattle.plan.specs.declared.span.Sections.{Sections}
@@ -16,6 +18,9 @@ abbrev pub letter_of : Letter → Plans.Letter
 letter_of Single = Plans.C
 letter_of Stacked = Plans.S
 letter_of Kept = Plans.K
+
+abbrev pub bounded_of : Bounded → Scheme.Production
+bounded_of p = production_of p.production.now
 
 abbrev pub sections_of : Sections → Spans.Sections
 sections_of w = record { first = visit_of w.first; last = visit_of w.last }

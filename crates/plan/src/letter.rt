@@ -1,5 +1,5 @@
 // Where an attribute's figures live.
-#[derive(Clone, Copy)]
+#[derive(Clone, Copy, PartialEq, Eq, Debug)]
 pub enum Letter {
     // C: all share a single cell
     Single,

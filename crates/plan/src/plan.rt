@@ -9,11 +9,17 @@ mod text;
 
 pub use agreement::one_plan;
 
+// What a plan says of an attribute: where its figures live, and in which sections of its symbol they are given and read.
+#[derive(Clone, Copy)]
+pub struct AttributePlan {
+    pub letter: Letter,
+    pub sections: Sections,
+}
+
 #[derive(Drop)]
 pub struct Plan {
     // for each attribute in turn
-    pub letters: Vec<Letter>,
-    pub sections: Vec<Sections>,
+    pub attributes: Vec<AttributePlan>,
     // for each production in turn
     pub productions: Vec<ProductionTable>,
     // the most spans that one production has on stacks at once

@@ -1,118 +1,93 @@
 // In which sections of its symbol an attribute may be given its value or read.
-ghost use Rattle.std.specs.Prelude.{◌≡◌, ◌≤◌, map, length, IfOk};
-ghost use Rattle.model.specs.Formed.{Limited};
-ghost use Rattle.model.specs.Lists.{places};
-ghost use Rattle.model.specs.Sequences as Sequences;
-ghost use Rattle.model.specs.Sequences.{uses, defines};
-ghost use Rattle.model.specs.Spans.{latest, earliest, last_section, first_section, attribute_sections};
+ghost use Rattle.std.specs.Prelude.{◌≡◌, map, IfOk};
+ghost use Rattle.model.specs.Spans.{attribute_sections};
 ghost use Rattle.model.specs.Tables.{all_sections};
-ghost use Rattle.grammar.specs.Views.{visit_of, attribute_of, occurrence_of, production_of, grammar_of};
+ghost use Rattle.grammar.specs.Views.{attribute_of};
+ghost use Rattle.scheme.specs.Whole.{scheme_of};
+ghost use Rattle.plan.specs.SectionBounds.{bound_in, bound_of};
 ghost use Rattle.plan.specs.Views.{sections_of};
 
 use super::span::Sections;
-use grammar::{Attribute, Grammar, Occurrence, Production, Side, VisitNumber};
+use grammar::{Attribute, Grammar, Occurrence, Production, Side, Step, VisitNumber};
+use scheme::Scheme;
 use std::alloc::{AllocError, Global};
 
-// The number of the section that step t is in.
-fn section_at(p: &Production, t: usize) -> u8
-    requires { length p.now.steps.items ≤ 64 }
-    ensures { result ≡ Sequences.section (production_of p.now) t }
+// What `pick` makes of the start and the sections of the steps that pass the test.
+fn bound_in<T: Fn(&Production, Step) -> bool, P: Fn(usize, usize) -> usize>(
+    p: &Production,
+    start: usize,
+    passes: &T,
+    pick: &P,
+) -> usize
+    requires tested { T.IsAlwaysCallable passes.now }
+    requires picked { P.IsAlwaysCallable pick.now }
+    ensures { (f : _) (h : _) → ((q : _) (st : _) (b : _) → T.post passes.now q st b → b ≡ f q.now st) → ((m n r : _) → P.post pick.now m n r → r ≡ h m n) → result ≡ bound_in h f start p.now }
 {
-    p.section(t) as u8
+    p.steps
+        .iter()
+        .enumerate()
+        .filter(|(_, step)| passes(p, **step))
+        .fold(start, |bound, (t, _)| pick(bound, p.section(t)))
 }
 
-// The greatest of a section and those of the steps that read the occurrence.
-fn latest_reading(p: &Production, o: Occurrence, least: VisitNumber) -> VisitNumber
-    requires { length p.now.steps.items ≤ 64 }
-    ensures { visit_of result ≡ latest (production_of p.now) (visit_of least) (places (λ st. uses (production_of p.now) st (occurrence_of o)) 0 (production_of p.now).steps) }
+// The same over the productions of a symbol.
+fn bound_of<T: Fn(&Production, Step) -> bool, P: Fn(usize, usize) -> usize>(
+    g: &Grammar,
+    symbol: usize,
+    start: usize,
+    passes: T,
+    pick: P,
+) -> usize
+    requires tested { T.IsAlwaysCallable passes }
+    requires picked { P.IsAlwaysCallable pick }
+    ensures { (f : _) (h : _) → ((q : _) (st : _) (b : _) → T.post passes q st b → b ≡ f q.now st) → ((m n r : _) → P.post pick m n r → r ≡ h m n) → result ≡ bound_of h f symbol start g.now.productions.items }
 {
-    let mut found = least.0;
-    for t in 0..p.steps.len() {
-        if p.reads(p.steps[t], o) {
-            found = found.max(section_at(p, t));
-        }
-    }
-    VisitNumber(found)
+    g.productions
+        .iter()
+        .filter(|p| p.left == symbol)
+        .fold(start, |bound, p| bound_in(p, bound, &passes, &pick))
 }
 
-// The least of a section and those of the steps that give the occurrence its value.
-fn earliest_giving(p: &Production, o: Occurrence, most: VisitNumber) -> VisitNumber
-    requires { length p.now.steps.items ≤ 64 }
-    ensures { visit_of result ≡ earliest (production_of p.now) (visit_of most) (places (λ st. defines (production_of p.now) st (occurrence_of o)) 0 (production_of p.now).steps) }
+// The sections of an attribute. An inherited one is given before its visit, and read up to the last section that reads it; a synthesized one is given from the
+// first section that gives it up to its visit.
+fn sections_of(scheme: &Scheme, number: usize, attribute: Attribute) -> Sections
+    ensures { sections_of result ≡ attribute_sections (scheme_of scheme.now) number (attribute_of attribute) }
 {
-    let mut found = most.0;
-    for t in 0..p.steps.len() {
-        if p.gives(p.steps[t], o) {
-            found = found.min(section_at(p, t));
-        }
-    }
-    VisitNumber(found)
-}
-
-// The last section of its symbol that reads attribute a, which is b: at least its visit.
-fn last_section(g: &Grammar, a: usize, b: Attribute) -> VisitNumber
-    requires { Limited (grammar_of g.now) }
-    ensures { visit_of result ≡ last_section b.symbol a (visit_of b.visit) (grammar_of g.now).productions }
-{
+    let g = scheme.grammar();
     let own = Occurrence {
         position: 0,
-        attribute: a,
+        attribute: number,
     };
-    let mut last = b.visit;
-    for n in 0..g.productions.len() {
-        let p = &g.productions[n];
-        if p.left == b.symbol {
-            last = latest_reading(p, own, last);
+    let symbol = attribute.symbol;
+    let visit = usize::from(attribute.visit.0);
+    // a production has at most 64 steps, so the number of a section fits
+    match attribute.side {
+        Side::Inherited => {
+            let last = bound_of(g, symbol, visit, |p, step| p.reads(step, own), usize::max);
+            Sections {
+                first: attribute.visit,
+                last: VisitNumber(last as u8),
+            }
         }
-    }
-    last
-}
-
-// The first section of its symbol that gives attribute a, which is b, its value: at most its visit.
-fn first_section(g: &Grammar, a: usize, b: Attribute) -> VisitNumber
-    requires { Limited (grammar_of g.now) }
-    ensures { visit_of result ≡ first_section b.symbol a (visit_of b.visit) (grammar_of g.now).productions }
-{
-    let own = Occurrence {
-        position: 0,
-        attribute: a,
-    };
-    let mut first = b.visit;
-    for n in 0..g.productions.len() {
-        let p = &g.productions[n];
-        if p.left == b.symbol {
-            first = earliest_giving(p, own, first);
+        Side::Synthesized => {
+            let first = bound_of(g, symbol, visit, |p, step| p.gives(step, own), usize::min);
+            Sections {
+                first: VisitNumber(first as u8),
+                last: attribute.visit,
+            }
         }
-    }
-    first
-}
-
-// The sections of attribute a, which is b. An inherited one is given before its visit, and read up to the last section that reads it; a synthesized one is given
-// from the first section that gives it up to its visit.
-pub(crate) fn sections_of(g: &Grammar, a: usize, b: Attribute) -> Sections
-    requires { Limited (grammar_of g.now) }
-    ensures { sections_of result ≡ attribute_sections (grammar_of g.now) a (attribute_of b) }
-{
-    match b.side {
-        Side::Inherited => Sections {
-            first: b.visit,
-            last: last_section(g, a, b),
-        },
-        Side::Synthesized => Sections {
-            first: first_section(g, a, b),
-            last: b.visit,
-        },
     }
 }
 
 // The sections of every attribute, in their order.
-pub(crate) fn all_sections(heap: Global, g: &Grammar) -> Result<Vec<Sections>, AllocError>
-    requires { Limited (grammar_of g.now) }
-    ensures { IfOk result (λ v. map sections_of v.items ≡ all_sections (grammar_of g.now)) }
+pub(crate) fn all_sections(heap: Global, scheme: &Scheme) -> Result<Vec<Sections>, AllocError>
+    ensures { IfOk result (λ v. map sections_of v.items ≡ all_sections (scheme_of scheme.now)) }
 {
-    let mut all = Vec::new(heap);
-    for a in 0..g.attributes.len() {
-        all.push(sections_of(g, a, g.attributes[a]))?;
-    }
-    Ok(all)
+    scheme
+        .grammar()
+        .attributes
+        .iter()
+        .enumerate()
+        .map(|(number, attribute)| sections_of(scheme, number, *attribute))
+        .collect(heap)
 }

@@ -2,7 +2,7 @@
 mod making;
 mod places;
 
-use grammar::{ChildNumber, VisitNumber};
+use grammar::{Attribute, ChildNumber, VisitNumber};
 pub(crate) use making::{span_at, spans_of};
 
 // The first and the last section of its symbol in which an attribute may be given its value or read.
@@ -10,6 +10,14 @@ pub(crate) use making::{span_at, spans_of};
 pub struct Sections {
     pub first: VisitNumber,
     pub last: VisitNumber,
+}
+
+// An attribute with its number and its sections.
+#[derive(Clone, Copy)]
+pub(crate) struct Figure {
+    pub number: usize,
+    pub attribute: Attribute,
+    pub sections: Sections,
 }
 
 // The steps at which the span of a child's attribute opens and closes, and the moments there. Step t has the moments 3t, before a VISIT, 3t + 1, after a VISIT

@@ -1,10 +1,10 @@
 // What a walk has to know of each step: which stacks it pushes and pops, and how deep its arguments and its target lie.
 use super::span::Span;
 
-mod change;
 mod changes;
 mod depth;
 mod held;
+mod layout;
 mod production;
 mod step;
 mod width;

@@ -13,14 +13,16 @@ pub struct Counts {
     pub productions: usize,
 }
 
-pub fn counts_of(s: &Scheme) -> Counts
-    ensures { result ≡ sizes_of (scheme_of s.now) }
-{
-    let g = s.grammar();
-    Counts {
-        symbols: g.visits.len(),
-        attributes: g.attributes.len(),
-        productions: g.productions.len(),
+impl From<&Scheme> for Counts {
+    ghost from_gives = { λ s r. r ≡ sizes_of (scheme_of s.now) };
+
+    fn from(s: &Scheme) -> Counts {
+        let g = s.grammar();
+        Counts {
+            symbols: g.visits.len(),
+            attributes: g.attributes.len(),
+            productions: g.productions.len(),
+        }
     }
 }
 

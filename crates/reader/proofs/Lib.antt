@@ -1,3 +1,2 @@
-pub mod Judging
 pub mod Arguments
-pub mod Rows
+pub mod RuleWord

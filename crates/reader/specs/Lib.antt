@@ -1,2 +1,4 @@
 pub mod Reading
 pub mod Entries
+pub mod Kinds
+pub mod Forms

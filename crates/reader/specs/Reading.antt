@@ -1,14 +1,14 @@
 -- What one word does to a draft, and what some words in a row do.
-use Rattle.std.specs.Prelude.{◌≡◌, ℕ, ◌+◌, List, ◌++◌, length, Some, None, Ok, Err, Result}
-use Rattle.std.proofs.Math.Option.{Option, none, some}
-use Rattle.std.specs.declared.option.Option as Code
+use Rattle.std.specs.Prelude.{◌≡◌, ℕ, ◌+◌, List, ◌++◌, length, Ok, Err, Result}
+use Rattle.std.proofs.Math.Option.{none, some}
 use Rattle.model.specs.Words as Words
-use Rattle.model.specs.Words.{Sofar, first_cause, objection, accepted, fields, kind, Read, read, read_from, scheme, stopped}
+use Rattle.model.specs.Words.{Sofar, objection, accepted, fields, kind, Read, read, read_from, scheme, stopped}
 use Rattle.reader.specs.declared.draft.Next.{Next}
 use Rattle.reader.specs.declared.draft.Next.TheVariants.{FirstSymbol, Symbols, Children, Rules, Arguments, Steps, Nothing}
 use Rattle.reader.specs.declared.draft.Draft.{Draft}
 use Rattle.grammar.specs.declared.parts.Grammar.{Grammar}
-use Rattle.reader.specs.declared.draft.findings.Findings.{Findings}
+use Rattle.reader.specs.declared.form.Form.{Form}
+use Rattle.reader.specs.Forms.{Says}
 use Rattle.grammar.specs.declared.refusal.Refusal.{Refusal}
 use Rattle.grammar.specs.declared.refusal.Refusal.TheVariants.{Memory, UnevenBytes, NoWords, TooManyWords, OutOfOrder, OverLimit, BadField, Absent, WrongSort, BadRoot, NoFiniteTree, OutOfReach, NotRuledOnce, NotEvaluatedOnce, BadSequence, TooEarly}
 use Rattle.grammar.specs.Views.{grammar_of, production_of}
@@ -21,6 +21,16 @@ next_of Rules = Words.rules
 next_of (Arguments n) = Words.arguments n
 next_of Steps = Words.steps
 next_of Nothing = Words.nothing
+
+-- rules come where no child and no argument is left to come
+abbrev pub settled : Words.Next → Words.Next
+settled Words.first_symbol = Words.first_symbol
+settled Words.symbols = Words.symbols
+settled (Words.children n) = Words.after_children n
+settled Words.rules = Words.rules
+settled (Words.arguments n) = Words.after_arguments n
+settled Words.steps = Words.steps
+settled Words.nothing = Words.nothing
 
 -- what the draft has read
 abbrev pub sofar_of : Draft → Sofar
@@ -56,18 +66,15 @@ abbrev pub Took : {X : Type 0} → Sofar → ℕ → ℕ → Result X Refusal �
 Took q i w (Ok x) q' = (objection q w ≡ none) × (accepted q (fields (kind w) w) ≡ q')
 Took q i w (Err e) q' = Stops e (λ n j. (objection q w ≡ some n) × (i ≡ j))
 
+-- what the word at place i says, or its first cause for refusal
+abbrev pub Judges : Sofar → ℕ → ℕ → Result Form Refusal → Type 0
+Judges q i w (Ok f) = (objection q w ≡ none) × Says w f
+Judges q i w (Err e) = Stops e (λ n j. (objection q w ≡ some n) × (i ≡ j))
+
 -- some words in a row, from place i on, whatever follows them
 abbrev pub Reads : {X : Type 0} → Sofar → ℕ → List ℕ → Result X Refusal → Sofar → Type 0
 Reads q i ws (Ok x) q' = (rest : List ℕ) → read_from (ws ++ rest) i q ≡ read_from rest (i + length ws) q'
 Reads q i ws (Err e) q' = Stops e (λ n j. (rest : List ℕ) → read_from (ws ++ rest) i q ≡ stopped n j)
-
--- the first cause for refusal among the findings of the word at place i
-abbrev pub cause_of : Findings → Option ℕ
-cause_of f = first_cause f.in_order f.over_limit f.well_made f.present f.right_sort
-
-abbrev pub Found : Findings → ℕ → Code.Option Refusal → Type 0
-Found f i None = cause_of f ≡ none
-Found f i (Some e) = Stops e (λ n j. (cause_of f ≡ some n) × (i ≡ j))
 
 -- what holds where a thing was added; only want of memory can keep it out
 abbrev pub Adds : {X : Type 0} → Result X Refusal → Type 0 → Type 0

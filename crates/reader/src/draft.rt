@@ -1,14 +1,11 @@
 // A scheme as far as it has been read. The production that is being read stands apart.
 use grammar::{Grammar, Production};
+use std::alloc::Global;
 
-mod findings;
+mod growth;
+mod judge;
 mod order;
-mod productions;
 mod reader;
-mod rules;
-mod steps;
-mod symbols;
-mod words;
 
 pub use reader::read_grammar;
 
@@ -29,7 +26,10 @@ pub enum Next {
 
 #[derive(Drop)]
 pub struct Draft {
+    pub heap: Global,
     pub whole: Grammar,
+    // Where none has begun this is an empty one and no Option, as in the model: `next` says whether a word may speak of it,
+    // and each question that is asked of a word has an answer either way.
     pub current: Production,
     pub next: Next,
 }

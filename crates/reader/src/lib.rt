@@ -2,6 +2,10 @@
 #![tactic(auto)]
 
 mod draft;
+mod entries;
 mod entry;
+mod form;
+mod kind;
+mod part;
 
 pub use draft::read_grammar;

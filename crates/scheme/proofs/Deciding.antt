@@ -1,18 +1,11 @@
--- Deciding what is asked of every number below a bound, one after the other. Assumes nothing.
-use Rattle.std.proofs.Common.{◌≡◌, ℕ, ◌+◌, ◌<◌, Bool, true, false, not, ◌||◌, eqb, ◌⊎◌, Decides, refl, subst, inl, inr, arith}
-use Rattle.std.proofs.lemmas.Bool.{cases_eq, both_ways, eqb-true, eq-eqb}
+-- Deciding what is asked, of one thing or of every number below a bound. Assumes nothing.
+use Rattle.std.proofs.Common.{◌≡◌, ℕ, ◌<◌, Bool, true, false, not, ◌||◌, eqb, Decides, refl}
+use Rattle.std.proofs.lemmas.Bool.{both_ways, eqb-true, eq-eqb}
 use Rattle.std.proofs.lemmas.Bool.Decides.{not_from_Decides}
 
 -- P holds of every number below n
 abbrev pub Below : (ℕ → Type 0) → ℕ → Type 0
 Below P n = (k : ℕ) → k < n → P k
-
-pub below_more : (P : ℕ → Type 0) (i : ℕ) → P i → Below P i → Below P (i + 1)
-below_more P i h so_far k l = go (cases_eq i k)
-  where
-    go : (i ≡ k) ⊎ (i ≡ k → ⊥) → P k
-    go (inl e) = subst P e h
-    go (inr n) = so_far k (omega arith)
 
 pub holds : {Q : Type 0} → Q → Decides true Q
 holds h = (λ t. h, λ q. refl)

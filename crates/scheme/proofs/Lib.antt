@@ -1,8 +1,10 @@
 pub mod Judgements
+pub mod Chains
+pub mod Comparing
+pub mod Attributes
 pub mod Bytes
 pub mod Deciding
 pub mod Ruling
-pub mod Searches
 pub mod Numbering
 pub mod Roots
 pub mod Readiness

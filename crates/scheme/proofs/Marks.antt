@@ -1,14 +1,19 @@
 -- Marks on symbols: how they grow, and what they come to. Assumes nothing.
-use Rattle.std.proofs.Common.{◌≡◌, ℕ, zero, suc, ◌+◌, ◌<◌, ◌≤◌, Bool, true, false, cond, not, ◌&&◌, ◌||◌, ◌⊎◌, List, [], ◌∷◌, length, get_or, set, replicate, Some, None, Decides, Option, sym, refl, ap, ◌∙◌, subst, inl, inr, arith}
+use Rattle.std.proofs.Common.{◌≡◌, ℕ, zero, suc, ◌+◌, ◌<◌, ◌≤◌, Bool, true, false, cond, not, ◌||◌, ◌⊎◌, List, [], ◌∷◌, ◌++◌, take, drop, length, get_or, set, replicate, Some, None, Option, sym, refl, ap, ◌∙◌, subst, inl, inr, arith}
 use Rattle.std.proofs.lemmas.List.{get_or-set_same, get_or-set_other, get_or-replicate, get_or_past, length-replicate, length-set, set-get_or}
+use Rattle.std.proofs.Math.Seq.{take-append_seam}
+use Rattle.std.specs.List.{AllWithin, HoldsAt}
+use Rattle.std.specs.Option.{MatchOption}
 use Rattle.std.proofs.lemmas.List.Sums.{sum_by-set}
-use Rattle.std.proofs.lemmas.Bool.{cases_eq, cases_lt, cases_Bool, or_parts, or_cases, and_parts, and_from, not-true, not-false, both_ways}
+use Rattle.std.proofs.lemmas.Bool.{cases_eq, cases_lt, cases_Bool, or_parts, or_cases, not-true, not-false, both_ways}
 use Rattle.model.specs.Lists.{Has}
 use Rattle.model.specs.Scheme.{Production, Scheme}
 use Rattle.model.specs.Lawful.{Finite, by, Reached, root, under}
 use Rattle.model.specs.Checking.{Keeps}
 use Rattle.model.specs.Formed.{Formed}
 use Rattle.model.proofs.Common.ListFacts.{has-below, has_at, has_one}
+use mathlib.Core.Logic.{∥∥₁_map}
+use Rattle.model.proofs.Stands.Derived.{finite_stands, reached_stands}
 use Rattle.model.proofs.Common.Form.{left-symbol, child_symbol}
 use Rattle.scheme.specs.Checked.{FirstFailing}
 use Rattle.scheme.specs.Marks.{marked, missing, AllMarked, Placed, Only, Grown, Settled, Carried, Followed, Meant, asked, Begun, Round, Closed, Full}
@@ -23,6 +28,15 @@ at_place (x ∷ xs) (suc k) l = at_place xs k (omega arith)
 
 pub placed_at : (ms : List Bool) (xs : List ℕ) (k : ℕ) → Placed ms xs → k < length xs → get_or xs k 0 < length ms
 placed_at ms xs k placed l = placed k (get_or xs k 0) (at_place xs k l)
+
+-- what the code reads, by its place
+pub placed_here : (ms : List Bool) (xs : List ℕ) (k x : ℕ) → Placed ms xs → k < length xs → x ≡ get_or xs k x → x < length ms
+placed_here ms xs k x placed l e = subst (λ (y : ℕ). y < length ms) (sym (e ∙ same xs k l)) (placed_at ms xs k placed l)
+  where
+    same : (ys : List ℕ) (i : ℕ) → i < length ys → get_or ys i x ≡ get_or ys i 0
+    same [] i h = absurd (omega arith)
+    same (y ∷ ys) zero h = refl
+    same (y ∷ ys) (suc i) h = same ys i (omega arith)
 
 pub placed_same : (ms : List Bool) (xs ys : List ℕ) → ys ≡ xs → Placed ms xs → Placed ms ys
 placed_same ms xs ys e placed = subst (λ (zs : List ℕ). Placed ms zs) (sym e) placed
@@ -131,7 +145,7 @@ grown_only {P} a b r only g x m = go (cases_Bool (marked a x))
 abbrev pub MarkedBelow : List Bool → List ℕ → ℕ → Type 0
 MarkedBelow ms xs i = (k x : ℕ) → k < i → Has xs k x → marked ms x ≡ true
 
-pub below_none : (ms : List Bool) (xs : List ℕ) → MarkedBelow ms xs 0
+below_none : (ms : List Bool) (xs : List ℕ) → MarkedBelow ms xs 0
 below_none ms xs k x l h = absurd (omega arith)
 
 pub below_all : (ms : List Bool) (xs : List ℕ) (i : ℕ) → length xs ≤ i → MarkedBelow ms xs i → AllMarked ms xs
@@ -145,18 +159,6 @@ below_more ms xs i l below m k x lt h = go (cases_eq k i)
         let h' : Has xs i x = subst (λ (j : ℕ). Has xs j x) e h in
         subst (λ (y : ℕ). marked ms y ≡ true) (has_one xs i (get_or xs i 0) x (at_place xs i l) h') m
     go (inr ne) = below k x (omega arith) h
-
-pub below_decided : (ms : List Bool) (xs : List ℕ) (i : ℕ) (all : Bool) → i < length xs → Decides all (MarkedBelow ms xs i) → Decides (all && marked ms (get_or xs i 0)) (MarkedBelow ms xs (i + 1))
-below_decided ms xs i all l d = (
-  (λ e. let p = and_parts all (marked ms (get_or xs i 0)) e in below_more ms xs i l (d.0 p.0) p.1),
-  (λ below. and_from all (marked ms (get_or xs i 0)) (d.1 (λ k x lt h. below k x (omega arith) h)) (below i (get_or xs i 0) (omega arith) (at_place xs i l))),
-)
-
-pub all_decided : (ms : List Bool) (xs : List ℕ) (i : ℕ) (all : Bool) → length xs ≤ i → Decides all (MarkedBelow ms xs i) → Decides all (AllMarked ms xs)
-all_decided ms xs i all l d = (
-  (λ e. below_all ms xs i l (d.0 e)),
-  (λ each. d.1 (λ k x lt h. each k x h)),
-)
 
 -- marks on the first i symbols of a list
 pub record Marking (xs : List ℕ) (before ms : List Bool) (added : Bool) (i : ℕ) : Type 0 where
@@ -172,15 +174,30 @@ marking_more xs before ms after added r i l so g m = record {
   here = below_more after xs i l (λ k x lt h. g.kept x (so.here k x lt h)) m;
 }
 
+-- a mark that may stand where it does, and does so for sure
+meant_stands : (way : Spread) (s : Scheme) (x : ℕ) → ∥ Meant way s x ∥₁ → Meant way s x
+meant_stands Up s x t = finite_stands s x t
+meant_stands Down s x t = reached_stands s x t
+
+pub only_stands : (way : Spread) (s : Scheme) (ms : List Bool) → ∥ Only (Meant way s) ms ∥₁ → Only (Meant way s) ms
+only_stands way s ms t x m = meant_stands way s x (∥∥₁_map t (λ o. o x m))
+
+-- what the code writes back over a whole list
+pub written : (n : ℕ) (ms before : List Bool) → length ms ≡ n → take n (ms ++ drop (length ms) before) ≡ ms
+written n ms before e = rw (← e) (take-append_seam ms (drop (length ms) before))
+
 -- a round
 
 carried_meant : (way : Spread) (s : Scheme) (ms : List Bool) (n : ℕ) (p : Production) → Has s.productions n p → Only (Meant way s) ms → (x : ℕ) → Carried way ms p x → Meant way s x
 carried_meant Up s ms n p h only x c = subst (λ (y : ℕ). Finite s y) (sym c.0) (by n p h (λ k y hc. only y (c.1 k y hc)))
 carried_meant Down s ms n p h only x c = under n c.1.0 x p h (only p.left c.0) c.1.1
 
-pub round_more : (way : Spread) (s : Scheme) (before ms after : List Bool) (added r : Bool) (i : ℕ) (p : Production) → Has s.productions i p → Only (Meant way s) before → Round way s before ms added i → Followed way p ms after r → Round way s before after (added || r) (i + 1)
+pub followed_only : (way : Spread) (s : Scheme) (ms after : List Bool) (r : Bool) (n : ℕ) (p : Production) → Has s.productions n p → Only (Meant way s) ms → Followed way p ms after r → Only (Meant way s) after
+followed_only way s ms after r n p h only f = grown_only ms after r only (grown_so ms after r (carried_meant way s ms n p h only) f.grown)
+
+pub round_more : (way : Spread) (s : Scheme) (before ms after : List Bool) (added r : Bool) (i : ℕ) (p : Production) → Has s.productions i p → Only (Meant way s) ms → Round way s before ms added i → Followed way p ms after r → Round way s before after (added || r) (i + 1)
 round_more way s before ms after added r i p h only so f = record {
-  grown = grown_then before ms after added r so.grown (grown_so ms after r (carried_meant way s ms i p h (grown_only before ms added only so.grown)) f.grown);
+  grown = grown_then before ms after added r so.grown (grown_so ms after r (carried_meant way s ms i p h only) f.grown);
   settled = λ e n q l hq. let parts = or_parts added r e in go parts.0 parts.1 n q l hq (cases_eq n i);
 }
   where
@@ -192,22 +209,27 @@ round_more way s before ms after added r i p h only so f = record {
         subst (λ (z : Production). Settled way before z) same here
     go ea er n q l hq (inr ne) = so.settled ea n q (omega arith) hq
 
-pub round_all : (way : Spread) (s : Scheme) (before ms : List Bool) (added : Bool) (i : ℕ) → length s.productions ≤ i → Round way s before ms added i → Round way s before ms added (length s.productions)
-round_all way s before ms added i l so = record {
-  grown = so.grown;
-  settled = λ e n p lt h. so.settled e n p (omega arith) h;
-}
+-- the rounds, of which the code's marks name their own way and scheme
 
--- the rounds
+abbrev pub Rounds : Spread → Scheme → List Bool → List Bool → Type 0
+Rounds way s before ms = (b : Bool) × Grown (Meant way s) before ms b
 
-abbrev pub Rounds : Spread → Scheme → List Bool → List Bool → Bool → Type 0
-Rounds way s before ms going = ((b : Bool) × Grown (Meant way s) before ms b) × (going ≡ false → Closed way s ms)
+round_on : (way w : Spread) (s t : Scheme) (ms after : List Bool) (r : Bool) → w ≡ way → t ≡ s → Round w t ms after r (length t.productions) → Round way s ms after r (length s.productions)
+round_on way w s t ms after r e f g = subst (λ (v : Spread). Round v s ms after r (length s.productions)) e (subst (λ (u : Scheme). Round w u ms after r (length u.productions)) f g)
 
-pub rounds_more : (way : Spread) (s : Scheme) (before ms after : List Bool) (was r : Bool) → Rounds way s before ms was → Round way s ms after r (length s.productions) → Rounds way s before after r
-rounds_more way s before ms after was r so f = (
-  (so.0.0 || r, grown_then before ms after so.0.0 r so.0.1 f.grown),
-  λ e n p h. subst (λ (m : List Bool). Settled way m p) (sym (f.grown.still e)) (f.settled e n p (has-below s.productions n p h) h),
-)
+rounds_more : (way w : Spread) (s t : Scheme) (before ms after : List Bool) (r : Bool) → w ≡ way → t ≡ s → Rounds way s before ms → Round w t ms after r (length t.productions) → Rounds way s before after
+rounds_more way w s t before ms after r e f so g = (so.0 || r, grown_then before ms after so.0 r so.1 (round_on way w s t ms after r e f g).grown)
+
+pub rounds_full : (way w : Spread) (s t : Scheme) (before ms after : List Bool) (r : Bool) → w ≡ way → t ≡ s → Only (Meant way s) before → r ≡ false → Rounds way s before ms → Round w t ms after r (length t.productions) → Full way s before after
+rounds_full way w s t before ms after r e f only stop so g =
+    let h = round_on way w s t ms after r e f g in
+    let all = rounds_more way w s t before ms after r e f so g in
+    record {
+      size = all.1.size;
+      kept = all.1.kept;
+      only = grown_only before after all.0 only all.1;
+      closed = λ n p there. subst (λ (m : List Bool). Settled way m p) (sym (h.grown.still stop)) (h.settled stop n p (has-below s.productions n p there) there);
+    }
 
 -- what the marks come to
 
@@ -234,10 +256,16 @@ left_out Down s before ms o size begun full h =
     (λ x keeps l. let hv = has_at s.visits x (omega (arith, full.size)) in all_reached s ms full.closed (full.kept 0 begun) x (keeps hv.0 hv.1))
     o h
 
+-- the first place with no mark
+pub first_lacking : (ms : List Bool) (o : Option ℕ) → MatchOption o (AllWithin (λ b. b ≡ true) ms 0 (length ms)) (λ i. (i < length ms) × HoldsAt (λ b. b ≡ false) ms i × AllWithin (λ b. b ≡ true) ms 0 i) → FirstFailing (λ x. x < length ms → marked ms x ≡ true) o
+first_lacking ms None h = λ x l. h x false (omega arith) l
+first_lacking ms (Some i) h = ((λ m. both_ways (marked ms i) (h.1 false) (m h.0)), λ k l _. h.2 k false (omega arith) l)
+
 -- the first marks
 
-pub none_asked : (s : Scheme) → length s.visits ≡ 0 → FirstFailing (λ x. Keeps s (asked Down x)) None
-none_asked s e x v h = let b = has-below s.visits x v h in absurd (omega arith)
+pub none_asked : (way : Spread) (s : Scheme) → length s.visits ≡ 0 → FirstFailing (λ x. Keeps s (asked way x)) None
+none_asked Up s e = λ x v h. let b = has-below s.visits x v h in absurd (omega arith)
+none_asked Down s e = λ x v h. let b = has-below s.visits x v h in absurd (omega arith)
 
 unmarked : (n x : ℕ) → marked (replicate n false) x ≡ false
 unmarked n x = go (cases_lt x n)
@@ -246,20 +274,20 @@ unmarked n x = go (cases_lt x n)
     go (inl l) = get_or-replicate n x false false l
     go (inr h) = get_or_past (replicate n false) x false (simp length-replicate h)
 
--- no symbol is marked
-pub blank : (P : ℕ → Type 0) (n : ℕ) (ms : List Bool) → ms ≡ replicate n false → (length ms ≡ n) × Only P ms
-blank P n ms e = (
-  ap length e ∙ length-replicate n false,
-  subst (λ (l : List Bool). Only P l) (sym e) (λ x m. absurd (both_ways (marked (replicate n false) x) (unmarked n x) m)),
-)
+abbrev pub goes_down : Spread → Bool
+goes_down Up = false
+goes_down Down = true
 
--- the root alone is marked
-pub root_alone : (s : Scheme) (n : ℕ) (ms : List Bool) → 0 < n → ms ≡ set (replicate n false) 0 true → (length ms ≡ n) × Only (Reached s) ms × (marked ms 0 ≡ true)
-root_alone s n ms l e = (
-  ap length e ∙ length-set (replicate n false) 0 true ∙ length-replicate n false,
-  subst (λ (m : List Bool). Only (Reached s) m) (sym e) only,
-  ap (λ (m : List Bool). marked m 0) e ∙ mark_here (replicate n false) 0 (simp length-replicate l),
-)
+-- no symbol is marked, or the root alone
+pub first_marks : (way : Spread) (s : Scheme) (n : ℕ) (b : Bool) (ms : List Bool) → 0 < n → b ≡ goes_down way → ms ≡ replicate n false → Only (Meant way s) (set ms 0 b) × Begun way (set ms 0 b)
+first_marks Up s n b ms l e f = (only, tt)
   where
-    only : Only (Reached s) (set (replicate n false) 0 true)
-    only x m = elim (mark_cases (replicate n false) 0 x m) [ inl at-root ↦ subst (λ (y : ℕ). Reached s y) (sym at-root) root | inr h ↦ absurd (both_ways (marked (replicate n false) x) (unmarked n x) h) ]
+    blank : set ms 0 b ≡ replicate n false
+    blank = rw (e, f) (ap (λ (c : Bool). set (replicate n false) 0 c) (sym (unmarked n 0)) ∙ set-get_or (replicate n false) 0 false)
+
+    only : Only (Meant Up s) (set ms 0 b)
+    only x m = absurd (both_ways (marked (replicate n false) x) (unmarked n x) (subst (λ (l : List Bool). marked l x ≡ true) blank m))
+first_marks Down s n b ms l e f = (only, rw (e, f) (mark_here (replicate n false) 0 (simp length-replicate l)))
+  where
+    only : Only (Meant Down s) (set ms 0 b)
+    only x m = elim (mark_cases (replicate n false) 0 x (rw (e, f) at m)) [ inl at-root ↦ subst (λ (y : ℕ). Reached s y) (sym at-root) root | inr h ↦ absurd (both_ways (marked (replicate n false) x) (unmarked n x) h) ]

@@ -1,43 +1,26 @@
 -- The numbers of steps at a position, in a row. Assumes nothing.
-use Rattle.std.proofs.Common.{◌≡◌, ℕ, zero, suc, ◌+◌, ◌-◌, ◌<◌, ◌≤◌, Bool, true, false, cond, ◌&&◌, eqb, List, [], ◌∷◌, ◌++◌, map, reverse, length, get_or, take, is_some, Some, None, Decides, sym, refl, ap, ◌∙◌, subst, append_assoc, append-nil, add-zero, add-suc, add_comm, suc-add, add-one, arith}
+use Rattle.std.proofs.Common.{◌≡◌, ℕ, zero, suc, ◌+◌, ◌-◌, ◌<◌, Bool, true, false, cond, ◌&&◌, eqb, List, [], ◌∷◌, ◌++◌, map, reverse, length, take, Some, None, Decides, sym, refl, ap, ◌∙◌, add-one, arith}
 use mathlib.Core.Option.{Option, none, some}
 use lib.Dec.{eqb-suc-zero}
 use lib.ListN.{get_elem?}
-use mir.Val.{bool_byte}
 use Rattle.std.specs.declared.option.Option as Code
-use Rattle.std.proofs.lemmas.List.{map_more, take_all, length_push, same_from_push, get_or_default, length-map}
-use Rattle.std.proofs.lemmas.Bool.{lt-ltb, eqb-true, eq-eqb, and_parts, and_from}
+use Rattle.std.specs.Option.{MatchOption}
+use Rattle.std.proofs.lemmas.Bool.{lt-ltb}
 use Rattle.model.specs.Lists.{Has, count, from_on}
-use Rattle.model.specs.Scheme.{Step, eval, visit, leave, Production, Scheme}
+use Rattle.model.specs.Scheme.{Step, eval, visit, leave, Production, Scheme, symbol_at}
 use Rattle.model.specs.Lawful.{Sequenced}
 use Rattle.model.specs.Sequences.{is_leave}
-use Rattle.model.proofs.Common.ListFacts.{some_none, some_same, true_of, has-below, reverse_last}
+use Rattle.model.proofs.Common.ListFacts.{some_none, some_same, true_of, has-below, has_at, reverse_last}
 use Rattle.model.proofs.Common.Basics.{last_has}
-use Rattle.grammar.specs.Views.{option_of}
-use Rattle.grammar.proofs.Lookups.{at_read}
-use Rattle.scheme.specs.Numbers.{numbers, number_at, follows, InSequence}
-
--- the numbers from n on
-from_on_push : (n v : ℕ) → from_on n (suc v) ≡ from_on n v ++ (n + v) ∷ []
-from_on_push n zero = ap (λ (m : ℕ). m ∷ []) (sym (add-zero n))
-from_on_push n (suc v) = ap (λ (ms : List ℕ). n ∷ ms) (from_on_push (suc n) v ∙ ap (λ (m : ℕ). from_on (suc n) v ++ m ∷ []) (suc-add n v ∙ sym (add-suc n v)))
-
-length-from_on : (n v : ℕ) → length (from_on n v) ≡ v
-length-from_on n zero = refl
-length-from_on n (suc v) = ap suc (length-from_on (suc n) v)
+use Rattle.grammar.specs.Views.{option_of, same}
+use Rattle.std.specs.List.{filter_map, cons_option, range_with_len}
+use Rattle.std.proofs.lemmas.Bool.Decides.{Decides-like, Decides-and}
+use Rattle.scheme.specs.Numbers.{numbers, number_at, InSequence}
 
 -- one step more
 abbrev listed : Option ℕ → List ℕ
 listed none = []
 listed (some j) = j ∷ []
-
-abbrev present : Option ℕ → Bool
-present none = false
-present (some j) = true
-
-pub present_is : {X : Type 0} (f : X → ℕ) (o : Code.Option X) → is_some o ≡ present (option_of f o)
-present_is f None = refl
-present_is f (Some x) = refl
 
 numbers_none : (k : ℕ) → numbers k [] ≡ []
 numbers_none zero = refl
@@ -55,70 +38,30 @@ numbers_first (suc k) (visit c j) ts = rw (lt-ltb 0 (suc k) (omega arith)) (go (
     go false = refl
 numbers_first (suc k) (leave i) ts = rw (eqb-suc-zero k) refl
 
-numbers_push : (k : ℕ) (ts : List Step) (t : Step) → numbers k (ts ++ t ∷ []) ≡ numbers k ts ++ listed (number_at k t)
-numbers_push k [] t = numbers_first k t [] ∙ ap (λ (ns : List ℕ). listed (number_at k t) ++ ns) (numbers_none k) ∙ append-nil (listed (number_at k t)) ∙ ap (λ (ns : List ℕ). ns ++ listed (number_at k t)) (sym (numbers_none k))
-numbers_push k (u ∷ ts) t =
-    numbers_first k u (ts ++ t ∷ []) ∙ ap (λ (ns : List ℕ). listed (number_at k u) ++ ns) (numbers_push k ts t)
-    ∙ sym (append_assoc (listed (number_at k u)) (numbers k ts) (listed (number_at k t)))
-    ∙ ap (λ (ns : List ℕ). ns ++ listed (number_at k t)) (sym (numbers_first k u ts))
+-- the code's word for a number that may be absent
+abbrev pub number_from : Option ℕ → Code.Option ℕ
+number_from none = None
+number_from (some j) = Some j
 
--- numbers that have been seen in a row: how many, and whether they rise by one from 1 on
-pub record Seen (ns : List ℕ) (seen : ℕ) (rising : Bool) : Type 0 where
-  pub many : seen ≡ length ns
-  pub rises : Decides rising (ns ≡ from_on 1 seen)
+pub is_number_from : (o : Code.Option ℕ) (m : Option ℕ) → option_of same o ≡ m → o ≡ number_from m
+is_number_from None m e = ap number_from e
+is_number_from (Some v) m e = ap number_from e
 
-and_true : (b : Bool) → (b && true) ≡ b
-and_true true = refl
-and_true false = refl
-
-seen_more : (ns : List ℕ) (seen : ℕ) (rising : Bool) (o : Option ℕ) → Seen ns seen rising → Seen (ns ++ listed o) (seen + bool_byte (present o)) (rising && follows o seen)
-seen_more ns seen rising none h = rw (append-nil ns, add-zero seen, and_true rising) h
-seen_more ns seen rising (some j) h = record { many = many; rises = (there, back) }
+-- the numbers of the steps, as the code picks them
+pub numbers_picked : {X : Type 0} (g : X → Step) (k : ℕ) (xs : List X) → filter_map (λ x. number_from (number_at k (g x))) xs ≡ numbers k (map g xs)
+numbers_picked g k [] = sym (numbers_none k)
+numbers_picked g k (x ∷ xs) = go (number_at k (g x)) (numbers_picked g k xs) ∙ sym (numbers_first k (g x) (map g xs))
   where
-    many : seen + 1 ≡ length (ns ++ j ∷ [])
-    many = ap (λ (n : ℕ). n + 1) h.many ∙ sym (length_push ns j)
+    go : (m : Option ℕ) → filter_map (λ x. number_from (number_at k (g x))) xs ≡ numbers k (map g xs) → cons_option (number_from m) (filter_map (λ x. number_from (number_at k (g x))) xs) ≡ listed m ++ numbers k (map g xs)
+    go none e = e
+    go (some j) e = ap (λ (ns : List ℕ). j ∷ ns) e
 
-    next : from_on 1 (seen + 1) ≡ from_on 1 seen ++ (seen + 1) ∷ []
-    next = ap (from_on 1) (add-one seen) ∙ from_on_push 1 seen ∙ ap (λ (n : ℕ). from_on 1 seen ++ n ∷ []) (add_comm 1 seen)
-
-    there : (rising && eqb j (seen + 1)) ≡ true → ns ++ j ∷ [] ≡ from_on 1 (seen + 1)
-    there t =
-        let p = and_parts rising (eqb j (seen + 1)) t in
-        ap (λ (ms : List ℕ). ms ++ j ∷ []) (h.rises.0 p.0) ∙ ap (λ (n : ℕ). from_on 1 seen ++ n ∷ []) (eqb-true j (seen + 1) p.1) ∙ sym next
-
-    back : ns ++ j ∷ [] ≡ from_on 1 (seen + 1) → (rising && eqb j (seen + 1)) ≡ true
-    back e =
-        let p = same_from_push ns (from_on 1 seen) j (seen + 1) (e ∙ next) in
-        and_from rising (eqb j (seen + 1)) (h.rises.1 p.0) (eq-eqb j (seen + 1) p.1)
-
-seen_all : (ns : List ℕ) (seen last : ℕ) (rising : Bool) → Seen ns seen rising → Decides (rising && eqb seen last) (ns ≡ from_on 1 last)
-seen_all ns seen last rising h = (there, back)
-  where
-    there : (rising && eqb seen last) ≡ true → ns ≡ from_on 1 last
-    there t = let p = and_parts rising (eqb seen last) t in h.rises.0 p.0 ∙ ap (from_on 1) (eqb-true seen last p.1)
-
-    back : ns ≡ from_on 1 last → (rising && eqb seen last) ≡ true
-    back e =
-        let m : seen ≡ last = h.many ∙ ap length e ∙ length-from_on 1 last in
-        and_from rising (eqb seen last) (h.rises.1 (e ∙ ap (from_on 1) (sym m))) (eq-eqb seen last m)
-
--- never more than the places passed
-pub seen_few : (seen i n : ℕ) (b : Bool) → seen ≤ i → n ≡ bool_byte b → seen + n ≤ i + 1
-seen_few seen i n true l e = omega arith
-seen_few seen i n false l e = omega arith
-
--- the same along the steps of a list, as the code reads them
-module _ {X : Type 0} (g : X → Step) (k : ℕ) where
-  pub seen_on : (xs : List X) (i : ℕ) (d : X) (seen n : ℕ) (rising r : Bool) (o : Option ℕ) → i < length xs → o ≡ number_at k (g (get_or xs i d)) → r ≡ follows o seen → n ≡ bool_byte (present o) → Seen (numbers k (map g (take i xs))) seen rising → Seen (numbers k (map g (take (i + 1) xs))) (seen + n) (rising && r)
-  seen_on xs i d seen n rising r o l e f m h =
-      let more : numbers k (map g (take (i + 1) xs)) ≡ numbers k (map g (take i xs)) ++ listed o = ap (numbers k) (map_more g xs i d l) ∙ numbers_push k (map g (take i xs)) (g (get_or xs i d)) ∙ ap (λ (q : Option ℕ). numbers k (map g (take i xs)) ++ listed q) (sym e) in
-      rw (more, f, m) (seen_more (numbers k (map g (take i xs))) seen rising o h)
-
-  pub seen_whole : (xs : List X) (i seen last n : ℕ) (rising : Bool) → n ≡ last → length xs ≤ i → Seen (numbers k (map g (take i xs))) seen rising → Decides (rising && eqb seen n) (numbers k (map g xs) ≡ from_on 1 last)
-  seen_whole xs i seen last n rising e l h = rw e (seen_all (numbers k (map g xs)) seen last rising (subst (λ (ys : List X). Seen (numbers k (map g ys)) seen rising) (take_all i xs l) h))
+pub range_from_on : (a n : ℕ) → range_with_len a n ≡ from_on a n
+range_from_on a zero = refl
+range_from_on a (suc n) = ap (λ (ns : List ℕ). a ∷ ns) (range_from_on (a + 1) n ∙ ap (λ (m : ℕ). from_on m n) (add-one a))
 
 -- the last of a list passes the test
-module _ {X Y : Type 0} (g : X → Y) (f : Y → Bool) where
+module _ {Y : Type 0} (f : Y → Bool) where
   first_passes : (ys : List Y) (y : Y) → Has ys 0 y → f y ≡ true → count f (take 1 ys) ≡ 1
   first_passes [] y h t = absurd (some_none y h)
   first_passes (z ∷ zs) y h t = rw (ap f (some_same z y h) ∙ t) refl
@@ -127,57 +70,38 @@ module _ {X Y : Type 0} (g : X → Y) (f : Y → Bool) where
   last_first [] b y h l = absurd (some_none y h)
   last_first (z ∷ zs) b y h l = let e : length zs ≡ b = omega arith in reverse_last z zs ∙ ap (get_elem? (z ∷ zs)) e ∙ h
 
-  pub last_passes : (xs : List X) (d : X) → (length xs ≡ 0 → ⊥) → Decides (f (g (get_or xs (length xs - 1) d))) (count f (take 1 (reverse (map g xs))) ≡ 1)
-  last_passes xs d l = (there, back)
+  pub last_passes : (ys : List Y) (i : ℕ) (y : Y) (b : Bool) → i ≡ length ys - 1 → Has ys i y → b ≡ f y → Decides b (count f (take 1 (reverse ys)) ≡ 1)
+  last_passes ys i y b e h t = ((λ u. first_passes (reverse ys) y (last_first ys i y h size) (sym t ∙ u)), λ c. t ∙ true_of (f y) (last_has f ys i c h size))
     where
-      below : length xs - 1 < length xs
-      below = omega arith
+      size : suc i ≡ length ys
+      size = let l = has-below ys i y h in omega arith
 
-      has : Has (map g xs) (length xs - 1) (g (get_or xs (length xs - 1) d))
-      has = sym (at_read g xs (length xs - 1) (get_or xs (length xs - 1) d) below (get_or_default xs (length xs - 1) d (get_or xs (length xs - 1) d) below))
+  pub none_passes : (ys : List Y) (i : ℕ) → i ≡ length ys - 1 → get_elem? ys i ≡ none → count f (take 1 (reverse ys)) ≡ 1 → ⊥
+  none_passes [] i e n c = omega (arith, c)
+  none_passes (z ∷ zs) i e n c = let r = has_at (z ∷ zs) i (omega arith) in some_none r.0 (sym n ∙ r.1)
 
-      size : suc (length xs - 1) ≡ length (map g xs)
-      size = let e = length-map xs g in omega arith
-
-      there : f (g (get_or xs (length xs - 1) d)) ≡ true → count f (take 1 (reverse (map g xs))) ≡ 1
-      there t = first_passes (reverse (map g xs)) (g (get_or xs (length xs - 1) d)) (last_first (map g xs) (length xs - 1) (g (get_or xs (length xs - 1) d)) has size) t
-
-      back : count f (take 1 (reverse (map g xs))) ≡ 1 → f (g (get_or xs (length xs - 1) d)) ≡ true
-      back e = true_of (f (g (get_or xs (length xs - 1) d))) (last_has f (map g xs) (length xs - 1) e has size)
-
-  pub none_passes : (xs : List X) → length xs ≡ 0 → Decides false (count f (take 1 (reverse (map g xs))) ≡ 1)
-  none_passes [] l = (λ t. let z : ◌≡◌ {A = ℕ} 0 1 = cc in absurd (omega arith), λ e. absurd (omega arith))
-  none_passes (x ∷ xs) l = absurd (omega arith)
+-- one position, whose symbol and whose symbol's last visit the code looks up
+module _ (s : Scheme) (p : Production) {X : Type 0} (f : X → ℕ) where
+  pub in_sequence_by : {Q : ℕ → Type 0} {R : X → Type 0} (k : ℕ) (m : Code.Option ℕ) (o : Code.Option X) (r : Bool) → option_of same m ≡ symbol_at p k → MatchOption m (o ≡ None) Q → ((x : ℕ) → Q x → option_of f o ≡ get_elem? s.visits x) → MatchOption o (r ≡ true) R → ((v : X) → R v → Decides r (numbers k p.steps ≡ from_on 1 (f v))) → Decides r (InSequence s p k)
+  in_sequence_by k None o r e h visits h' rising = (λ _ x v g. absurd (some_none x (e ∙ g)), λ _. rw h at h')
+  in_sequence_by k (Some x) None r e h visits h' rising = (λ _ y v g u. let same_x = some_same x y (e ∙ g) in absurd (some_none v (visits x h ∙ ap (get_elem? s.visits) same_x ∙ u)), λ _. h')
+  in_sequence_by k (Some x) (Some v) r e h visits h' rising = (
+    (λ t y w g u. (rising v h').0 t ∙ ap (from_on 1) (some_same (f v) w (visits x h ∙ ap (get_elem? s.visits) (some_same x y (e ∙ g)) ∙ u))),
+    (λ q. (rising v h').1 (q x (f v) (sym e) (sym (visits x h)))),
+  )
 
 -- all positions, and the end
 module _ (s : Scheme) (p : Production) where
-  abbrev Ends : Type 0
-  Ends = count is_leave (take 1 (reverse p.steps)) ≡ 1
-
-  abbrev Below : Type 0
-  Below = (k : ℕ) → k < length p.children → InSequence s p (k + 1)
-
-  parts_sequenced : Ends → InSequence s p 0 → Below → Sequenced s p
-  parts_sequenced e a b = record {
-    children_visited = λ k x v h m. subst (λ (n : ℕ). InSequence s p n) (add-one k) (b k (has-below p.children k x h)) x v h m;
-    left_sections = λ v m. a p.left v refl m;
+  parts_sequenced : count is_leave (take 1 (reverse p.steps)) ≡ 1 → ((k : ℕ) → k < suc (length p.children) → InSequence s p k) → Sequenced s p
+  parts_sequenced e a = record {
+    children_visited = λ k x v h m. let l = has-below p.children k x h in a (suc k) (omega arith) x v h m;
+    left_sections = λ v m. a 0 (omega arith) p.left v refl m;
     ends_with_leave = e;
   }
 
-  left_of : Sequenced s p → InSequence s p 0
-  left_of q x v h m = q.left_sections v (ap (get_elem? s.visits) (some_same p.left x h) ∙ m)
+  at_each : Sequenced s p → (k : ℕ) → InSequence s p k
+  at_each q zero x v h m = q.left_sections v (ap (get_elem? s.visits) (some_same p.left x h) ∙ m)
+  at_each q (suc k) x v h m = q.children_visited k x v h m
 
-  below_of : Sequenced s p → Below
-  below_of q k l = subst (λ (n : ℕ). InSequence s p n) (sym (add-one k)) (λ x v h m. q.children_visited k x v h m)
-
-  pub sequenced_by : (e a b : Bool) → Decides e Ends → Decides a (InSequence s p 0) → Decides b Below → Decides ((e && a) && b) (Sequenced s p)
-  sequenced_by e a b de da db = (there, back)
-    where
-      there : ((e && a) && b) ≡ true → Sequenced s p
-      there t =
-          let u = and_parts (e && a) b t in
-          let w = and_parts e a u.0 in
-          parts_sequenced (de.0 w.0) (da.0 w.1) (db.0 u.1)
-
-      back : Sequenced s p → ((e && a) && b) ≡ true
-      back q = and_from (e && a) b (and_from e a (de.1 q.ends_with_leave) (da.1 (left_of q))) (db.1 (below_of q))
+  pub sequenced_by : (e a : Bool) → Decides e (count is_leave (take 1 (reverse p.steps)) ≡ 1) → Decides a ((k : ℕ) → k < suc (length p.children) → InSequence s p k) → Decides (e && a) (Sequenced s p)
+  sequenced_by e a de da = Decides-like (e && a) (λ h. parts_sequenced h.0 h.1) (λ q. (q.ends_with_leave, λ k l. at_each q k)) (Decides-and e a de da)

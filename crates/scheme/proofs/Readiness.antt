@@ -1,15 +1,17 @@
 -- When a step of a production has what it needs. Assumes nothing.
-use Rattle.std.proofs.Common.{◌≡◌, ℕ, zero, suc, ◌+◌, ◌<◌, ◌≤◌, Bool, true, false, not, ◌&&◌, ◌||◌, T, eqb, ltb, leb, List, map, length, get_or, take, Decides, sym, refl, ap, ◌∙◌, subst, inl, inr, arith}
+use Rattle.std.proofs.Common.{◌≡◌, ℕ, zero, suc, ◌<◌, ◌≤◌, Bool, true, T, eqb, ltb, leb, List, [], ◌∷◌, length, take, Decides, sym, refl, ap, ◌∙◌, subst, arith}
 use mathlib.Core.Option.{Option, none, some}
 use lib.ListN.{get_elem?}
-use Rattle.std.proofs.lemmas.Bool.{eqb-true, eq-eqb, leb-true, le-leb, ltb-true, lt-ltb, and_parts, and_from, cases_lt, both_ways}
+use Rattle.std.proofs.lemmas.Bool.{eqb-true, eq-eqb, leb-true, le-leb, ltb-true, lt-ltb, and_parts, and_from}
 use Rattle.model.specs.Lists.{Has, any}
-use Rattle.model.specs.Scheme.{Side, inherited, synthesized, Attribute, Occurrence, Rule, Step, eval, visit, leave, Production, Scheme, same_occurrence, symbol_at}
-use Rattle.model.specs.Sequences.{section, uses, defines, rule_uses}
+use Rattle.model.specs.Scheme.{Side, inherited, synthesized, Attribute, Occurrence, Rule, Step, eval, visit, leave, Production, Scheme, same_occurrence, symbol_at, attribute_at}
+use Rattle.model.specs.Sequences.{section, uses, rule_uses}
 use Rattle.model.specs.Lawful.{Of, Known, given, visited, Before, Ordered, is_visit}
-use Rattle.model.proofs.Common.ListFacts.{true_of, of_true, or_l, or_r, or_split, has-below}
+use Rattle.model.proofs.Common.ListFacts.{true_of, of_true, any_find, any_here, some_none, some_same}
 use Rattle.scheme.specs.Readiness.{available, AllKnown, ArgumentsKnown, Ready}
-use Rattle.scheme.proofs.Searches.{any_more}
+use Rattle.scheme.proofs.Attributes.{from_parts, parts}
+use Rattle.scheme.proofs.Chains.{Each}
+use Rattle.std.proofs.lemmas.Bool.Decides.{Decides-like}
 
 -- one occurrence
 same_is : (o q : Occurrence) → T (same_occurrence o q) → q ≡ o
@@ -21,6 +23,11 @@ same_is o q h =
 
 same_self : (o : Occurrence) → T (same_occurrence o o)
 same_self o = of_true (same_occurrence o o) (and_from (eqb o.position o.position) (eqb o.attribute o.attribute) (eq-eqb o.position o.position refl) (eq-eqb o.attribute o.attribute refl))
+
+nothing_past : {X : Type 0} (xs : List X) (i : ℕ) → length xs ≤ i → get_elem? xs i ≡ none
+nothing_past [] i l = refl
+nothing_past (x ∷ xs) zero l = absurd (omega arith)
+nothing_past (x ∷ xs) (suc i) l = nothing_past xs i (omega arith)
 
 module _ (s : Scheme) (p : Production) (t : ℕ) where
   -- what makes an occurrence known: a symbol at its position and an attribute of that symbol, available
@@ -47,73 +54,39 @@ module _ (s : Scheme) (p : Production) (t : ℕ) where
   known_of (suc k) a x y j synthesized ex h e v =
       visited ex (of_it a x y j synthesized h e) (of_true (any (is_visit (suc k) j) (take t p.steps)) (and_parts (ltb 0 (suc k)) (any (is_visit (suc k) j) (take t p.steps)) v).1)
 
-  pub known_when : (k a x : ℕ) (b : Attribute) (r : Bool) → some x ≡ symbol_at p k → some b ≡ get_elem? s.attributes a → r ≡ eqb b.symbol x && available p t k b.side b.visit → Decides r (Known s p t (record { position = k; attribute = a }))
-  known_when k a x b r ex eb er = (into, out)
+  known_at : (o : Occurrence) (h : Known s p t o) → attribute_at s p o ≡ some (parts_of h).1
+  known_at o h = let q = parts_of h in from_parts _ _ q.0 q.1 q.2.symbol_is q.2.attribute_is q.2.of_symbol
+
+  -- where the occurrence has no attribute of its symbol, and where it has one
+  pub known_nowhere : (o : Occurrence) → attribute_at s p o ≡ none → Known s p t o → ⊥
+  known_nowhere o e h = some_none _ (sym e ∙ known_at o h)
+
+  pub known_where : (o : Occurrence) (b : Attribute) (r : Bool) → attribute_at s p o ≡ some b → r ≡ available p t o.position b.side b.visit → Decides r (Known s p t o)
+  known_where o b r e er = (into, out)
     where
-      into : r ≡ true → Known s p t (record { position = k; attribute = a })
-      into e =
-          let q = and_parts (eqb b.symbol x) (available p t k b.side b.visit) (sym er ∙ e) in
-          known_of k a x b.symbol b.visit b.side (sym ex) (sym eb) (eqb-true b.symbol x q.0) q.1
+      into : r ≡ true → Known s p t o
+      into z = let q = parts _ _ b e in known_of o.position o.attribute b.symbol b.symbol b.visit b.side q.0 q.1 refl (sym er ∙ z)
 
-      out : Known s p t (record { position = k; attribute = a }) → r ≡ true
-      out h =
-          let q = parts_of h in
-          let u : q.0 ≡ x = cc q.2.symbol_is in
-          let v : q.1 ≡ b = cc q.2.attribute_is in
-          let f = ap (λ (z : Attribute). z.symbol) (sym v) ∙ q.2.of_symbol ∙ u in
-          let g = subst (λ (z : Attribute). available p t k z.side z.visit ≡ true) v q.2.is_available in
-          er ∙ and_from (eqb b.symbol x) (available p t k b.side b.visit) (eq-eqb b.symbol x f) g
+      out : Known s p t o → r ≡ true
+      out h = er ∙ subst (λ (z : Attribute). available p t o.position z.side z.visit ≡ true) (some_same _ b (sym (known_at o h) ∙ e)) (parts_of h).2.is_available
 
-  pub unknown_symbol : (k a : ℕ) → none ≡ symbol_at p k → Decides false (Known s p t (record { position = k; attribute = a }))
-  unknown_symbol k a e = (λ z. absurd (both_ways false refl z), λ h. let q = parts_of h in cc q.2.symbol_is)
-
-  pub unknown_attribute : (k a : ℕ) → none ≡ get_elem? s.attributes a → Decides false (Known s p t (record { position = k; attribute = a }))
-  unknown_attribute k a e = (λ z. absurd (both_ways false refl z), λ h. let q = parts_of h in cc q.2.attribute_is)
-
-  -- one argument more
-  module _ {X : Type 0} (g : X → Occurrence) where
-    pub all_known_more : (xs : List X) (i : ℕ) (d : X) (all r : Bool) → i < length xs → Decides r (Known s p t (g (get_or xs i d))) → Decides all (AllKnown s p t (map g (take i xs))) → Decides (all && r) (AllKnown s p t (map g (take (i + 1) xs)))
-    all_known_more xs i d all r l one so = (into, out)
-      where
-        into : all && r ≡ true → AllKnown s p t (map g (take (i + 1) xs))
-        into e o h = elim (or_split (any (same_occurrence o) (map g (take i xs))) (same_occurrence o (g (get_or xs i d))) (subst T (any_more g (same_occurrence o) xs i d l) h)) [ inl u ↦ so.0 (and_parts all r e).0 o u | inr u ↦ subst (Known s p t) (same_is o (g (get_or xs i d)) u) (one.0 (and_parts all r e).1) ]
-
-        back : (o : Occurrence) → T (any (same_occurrence o) (map g (take i xs)) || same_occurrence o (g (get_or xs i d))) → T (any (same_occurrence o) (map g (take (i + 1) xs)))
-        back o h = subst T (sym (any_more g (same_occurrence o) xs i d l)) h
-
-        out : AllKnown s p t (map g (take (i + 1) xs)) → all && r ≡ true
-        out h = and_from all r (so.1 (λ o u. h o (back o (or_l (any (same_occurrence o) (map g (take i xs))) (same_occurrence o (g (get_or xs i d))) u)))) (one.1 (h (g (get_or xs i d)) (back (g (get_or xs i d)) (or_r (any (same_occurrence (g (get_or xs i d))) (map g (take i xs))) (same_occurrence (g (get_or xs i d)) (g (get_or xs i d))) (same_self (g (get_or xs i d)))))))
+  -- each of the arguments
+  pub decides_known : (os : List Occurrence) (r : Bool) → Decides r (Each (λ _. Known s p t) os) → Decides r (AllKnown s p t os)
+  decides_known os r d = Decides-like r into (λ h k o e. h o (any_here (same_occurrence o) os k o e (same_self o))) d
+    where
+      into : Each (λ _. Known s p t) os → AllKnown s p t os
+      into h o u = let f = any_find (same_occurrence o) os u in subst (Known s p t) (same_is o f.1 f.3) (h f.0 f.1 f.2)
 
   -- the arguments of a rule that is there, and of one that is not
-  pub arguments_here : (n : ℕ) (q : Rule) (r : Bool) → some q ≡ get_elem? p.rules n → Decides r (AllKnown s p t q.arguments) → Decides r (ArgumentsKnown s p t n)
-  arguments_here n q r e h = subst (λ (z : Option Rule). Decides r ((o : Occurrence) → T (rule_uses z o) → Known s p t o)) e h
+  pub arguments_here : (n : ℕ) (q : Rule) (r : Bool) → get_elem? p.rules n ≡ some q → Decides r (AllKnown s p t q.arguments) → Decides r (ArgumentsKnown s p t n)
+  arguments_here n q r e h = subst (λ (z : Option Rule). Decides r ((o : Occurrence) → T (rule_uses z o) → Known s p t o)) (sym e) h
 
-  pub arguments_absent : (n : ℕ) → none ≡ get_elem? p.rules n → Decides true (ArgumentsKnown s p t n)
-  arguments_absent n e = (λ _ o h. absurd (subst (λ (z : Option Rule). T (rule_uses z o)) (sym e) h), λ _. refl)
+  pub arguments_absent : (n : ℕ) → get_elem? p.rules n ≡ none → Decides true (ArgumentsKnown s p t n)
+  arguments_absent n e = (λ _ o h. absurd (subst (λ (z : Option Rule). T (rule_uses z o)) e h), λ _. refl)
 
-  -- the attributes below i, at position k
-  abbrev pub DefinedBelow : ℕ → ℕ → Side → ℕ → ℕ → Type 0
-  DefinedBelow k x d j i = (a : ℕ) → a < i → Of s a x d j → Before p t (record { position = k; attribute = a })
-
-  pub defined_more : (k x j i : ℕ) (d : Side) (b : Attribute) (all is r : Bool) → some b ≡ get_elem? s.attributes i → Decides is (b ≡ record { symbol = x; side = d; visit = j }) → r ≡ any (λ st. defines p st (record { position = k; attribute = i })) (take t p.steps) → Decides all (DefinedBelow k x d j i) → Decides (all && (not is || r)) (DefinedBelow k x d j (i + 1))
-  defined_more k x j i d b all is r eb of er so = (into, out is refl)
-    where
-      here : (w : Bool) → is ≡ w → not w || r ≡ true → Of s i x d j → Before p t (record { position = k; attribute = i })
-      here true ei e h = of_true (any (λ st. defines p st (record { position = k; attribute = i })) (take t p.steps)) (sym er ∙ e)
-      here false ei e h = let z = of.1 (cc) in absurd (both_ways is ei z)
-
-      into : all && (not is || r) ≡ true → DefinedBelow k x d j (i + 1)
-      into e a l h = elim (cases_lt a i) [ inl u ↦ so.0 (and_parts all (not is || r) e).0 a u h | inr u ↦ at (omega arith) h ]
-        where
-          at : a ≡ i → Of s a x d j → Before p t (record { position = k; attribute = a })
-          at f = subst (λ (z : ℕ). Of s z x d j → Before p t (record { position = k; attribute = z })) (sym f) (here is refl (and_parts all (not is || r) e).1)
-
-      out : (w : Bool) → is ≡ w → DefinedBelow k x d j (i + 1) → all && (not w || r) ≡ true
-      out true ei h = and_from all r (so.1 (λ a l u. h a (omega arith) u)) (er ∙ true_of (any (λ st. defines p st (record { position = k; attribute = i })) (take t p.steps)) (h i (omega arith) (sym eb ∙ ap (λ (z : Attribute). some z) (of.0 ei))))
-      out false ei h = and_from all true (so.1 (λ a l u. h a (omega arith) u)) refl
-
-  pub defined_all : (k x j i : ℕ) (d : Side) (all : Bool) → length s.attributes ≤ i → Decides all (DefinedBelow k x d j i) → Decides all ((a : ℕ) → Of s a x d j → Before p t (record { position = k; attribute = a }))
-  defined_all k x j i d all l so = (λ e a h. let n = has-below s.attributes a (record { symbol = x; side = d; visit = j }) h in so.0 e a (omega arith) h, λ f. so.1 (λ a _ h. f a h))
+  -- each attribute that is q
+  pub decides_defined : (k : ℕ) (q : Attribute) (r : Bool) → Decides r (Each (λ n a. a ≡ q → Before p t (record { position = k; attribute = n })) s.attributes) → Decides r ((a : ℕ) → Has s.attributes a q → Before p t (record { position = k; attribute = a }))
+  decides_defined k q r d = Decides-like r (λ h a e. h a q e refl) (λ h a b e f. h a (e ∙ ap (λ (z : Attribute). some z) f)) d
 
   -- what a visit to child k needs
   pub ready_child : (k x j : ℕ) (r : Bool) → 0 < k → some x ≡ symbol_at p k → Decides r ((a : ℕ) → Of s a x inherited j → Before p t (record { position = k; attribute = a })) → Decides r (Ready s p t k j)
@@ -155,13 +128,12 @@ module _ (s : Scheme) (p : Production) (t : ℕ) where
         ready_to_leave = λ i a hs ha. let f : i ≡ j = cc in u a (subst (λ (z : ℕ). Of s a p.left synthesized z) f ha);
       }
 
-  pub ordered_past : length p.steps ≤ t → Ordered s p t
+  pub ordered_past : get_elem? p.steps t ≡ none → Ordered s p t
   ordered_past l = record {
-    arguments_known = λ st hs o w. let n = has-below p.steps t st hs in absurd (omega arith);
-    ready_to_visit = λ k x j a hs. let n = has-below p.steps t (visit (suc k) j) hs in absurd (omega arith);
-    ready_to_leave = λ i a hs. let n = has-below p.steps t (leave i) hs in absurd (omega arith);
+    arguments_known = λ st hs. absurd (some_none st (sym l ∙ hs));
+    ready_to_visit = λ k x j a hs. absurd (some_none (visit (suc k) j) (sym l ∙ hs));
+    ready_to_leave = λ i a hs. absurd (some_none (leave i) (sym l ∙ hs));
   }
 
--- each step below t is ordered, and t is past the last
-pub all_ordered : (s : Scheme) (p : Production) (t : ℕ) → length p.steps ≤ t → ((m : ℕ) → m < t → Ordered s p m) → (n : ℕ) → Ordered s p n
-all_ordered s p t l h n = elim (cases_lt n t) [ inl u ↦ h n u | inr u ↦ ordered_past s p n (omega arith) ]
+  pub ordered_from : length p.steps ≤ t → Ordered s p t
+  ordered_from l = ordered_past (nothing_past p.steps t l)

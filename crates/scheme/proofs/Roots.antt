@@ -1,12 +1,21 @@
 -- The three tests on symbol 0. Assumes nothing.
-use Rattle.std.proofs.Common.{◌≡◌, ℕ, Bool, true, false, not, ◌&&◌, T, eqb, Decides, sym, ap, ◌∙◌}
-use mathlib.Core.Option.{some}
-use Rattle.std.proofs.lemmas.Bool.{and_parts, and_from, not-true, not_from_false, eqb-true}
+use Rattle.std.proofs.Common.{◌≡◌, ℕ, Bool, true, false, not, ◌&&◌, T, eqb, Some, None, Decides, sym, ap, ◌∙◌}
+use mathlib.Core.Option.{Option, some}
+use Rattle.std.specs.declared.option.Option as Code
+use Rattle.std.specs.Option.{option_eq}
+use Rattle.grammar.specs.Views.{option_of, visit_of}
+use Rattle.grammar.specs.declared.parts.VisitNumber.{VisitNumber}
+use Rattle.std.proofs.lemmas.Bool.{and_parts, and_from, not-true, not_from_false, eqb-true, eq-eqb, both_ways}
 use Rattle.model.specs.Lists.{Has, any}
 use Rattle.model.specs.Scheme.{Side, inherited, synthesized, Attribute, Scheme}
 use Rattle.model.specs.Checking.{Rooted}
-use Rattle.model.proofs.Common.ListFacts.{true_of, false_of, of_false, any_find, any_here}
+use Rattle.model.proofs.Common.ListFacts.{true_of, false_of, of_false, any_find, any_here, some_none, some_same}
 use Rattle.scheme.specs.Roots.{is_root, root_on, inherited_of_root, has_root_child}
+
+-- the code's own look at the last visit
+pub is_one : (m : Option ℕ) (o : Code.Option VisitNumber) (r : Bool) → option_of visit_of o ≡ m → r ≡ option_eq (λ a b. eqb a.0 b.0) o (Some (record { 0 = 1 })) → Decides r (m ≡ some 1)
+is_one m None r e h = (λ t. absurd (both_ways r h t), λ f. absurd (some_none 1 (e ∙ f)))
+is_one m (Some v) r e h = ((λ t. sym e ∙ ap some (eqb-true v.0 1 (sym h ∙ t))), λ f. h ∙ eq-eqb v.0 1 (some_same v.0 1 (e ∙ f)))
 
 root-attribute : (b : Attribute) → T (inherited_of_root b) → b ≡ record { symbol = 0; side = inherited; visit = b.visit }
 root-attribute b t = go b.side b.symbol t

@@ -1,5 +1,5 @@
 -- The numbers that a production's steps have at its positions: the leaves at the left symbol, the visits at each child.
-use Rattle.std.specs.Prelude.{◌≡◌, ℕ, zero, suc, ◌+◌, Bool, true, cond, ◌&&◌, List, ◌==◌, nat_lt}
+use Rattle.std.specs.Prelude.{◌≡◌, ℕ, zero, suc, cond, ◌&&◌, List, ◌==◌, nat_lt}
 use Rattle.std.proofs.Math.Option.{Option, none, some}
 use Rattle.model.specs.Lists.{Has, from_on}
 use Rattle.model.specs.Scheme.{Step, eval, visit, leave, Production, Scheme, symbol_at}
@@ -14,11 +14,6 @@ abbrev pub number_at : ℕ → Step → Option ℕ
 number_at k (eval r) = none
 number_at k (visit c j) = cond (nat_lt 0 k && k == c) (some j) none
 number_at k (leave i) = cond (k == 0) (some i) none
-
--- a number, where there is one, is one more than those seen
-abbrev pub follows : Option ℕ → ℕ → Bool
-follows none n = true
-follows (some j) n = j == n + 1
 
 -- the numbers at a position are those of its symbol's visits, each once and rising
 abbrev pub InSequence : Scheme → Production → ℕ → Type 0

@@ -4,7 +4,16 @@ use Rattle.std.proofs.Math.ListN.{get_elem?}
 use Rattle.model.specs.Lists.{Has, any}
 use Rattle.model.specs.Scheme.{Side, inherited, synthesized, Occurrence, Production, Scheme, same_occurrence}
 use Rattle.model.specs.Sequences.{section, rule_uses}
+use Rattle.grammar.specs.Views.{scheme_in, production_in}
+use Rattle.scheme.specs.declared.checks.ordered.moment.Moment.{Moment}
 use Rattle.model.specs.Lawful.{Of, Known, Before, is_visit}
+
+-- the scheme and the production of a moment
+abbrev pub scheme_at : Moment → Scheme
+scheme_at m = scheme_in m.scope
+
+abbrev pub production_at : Moment → Production
+production_at m = production_in m.scope
 
 -- at that position a value of that side, for visit j, is known before step t
 abbrev pub available : Production → ℕ → ℕ → Side → ℕ → Bool

@@ -3,7 +3,7 @@ use Rattle.std.specs.Prelude.{◌≡◌, ℕ, ◌<◌, ◌≤◌, List, length, 
 use Rattle.model.specs.Scheme.{Scheme}
 use Rattle.model.specs.Lawful.{Lawful}
 use Rattle.model.specs.Formed.{Formed, Limited}
-use Rattle.model.specs.Checking.{Check, root, finite, reached, ruled, evaluated, sequenced, ordered, BeforeProduction, ProductionKept, SymbolsKept, FirstBroken}
+use Rattle.model.specs.Checking.{Check, root, finite, reached, ruled, evaluated, sequenced, ordered, BeforeProduction, ProductionKept, FirstBroken}
 use Rattle.model.specs.Words.{read, scheme, stopped, words_of}
 use Rattle.grammar.specs.declared.refusal.Refusal.{Refusal}
 use Rattle.grammar.specs.declared.refusal.Refusal.TheVariants.{Memory, UnevenBytes, NoWords, TooManyWords, OutOfOrder, OverLimit, BadField, Absent, WrongSort, BadRoot, NoFiniteTree, OutOfReach, NotRuledOnce, NotEvaluatedOnce, BadSequence, TooEarly}
@@ -27,11 +27,7 @@ Broke s (NotEvaluatedOnce n) = FirstBroken s (evaluated n)
 Broke s (BadSequence n) = FirstBroken s (sequenced n)
 Broke s (TooEarly n t) = FirstBroken s (ordered n t)
 
--- what the checks answer of the symbols, of one production where all is kept before it, and of the whole scheme
-abbrev pub SymbolsJudged : {X : Type 0} → Scheme → Result X Refusal → Type 0
-SymbolsJudged s (Ok x) = SymbolsKept s
-SymbolsJudged s (Err e) = Broke s e
-
+-- what the checks answer of one production where all is kept before it, and of the whole scheme
 abbrev pub ProductionJudged : {X : Type 0} → Scheme → ℕ → Result X Refusal → Type 0
 ProductionJudged s n (Ok x) = ProductionKept s n
 ProductionJudged s n (Err e) = BeforeProduction s n → Broke s e

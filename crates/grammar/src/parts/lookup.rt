@@ -1,11 +1,11 @@
 // What stands at a place of a grammar, or nothing past the end; tests of its parts.
-ghost use Rattle.model.specs.Scheme.{same_occurrence, symbol_at};
+ghost use Rattle.model.specs.Scheme.{symbol_at, attribute_at};
 ghost use Rattle.model.specs.Sequences.{is_leave};
-ghost use Rattle.grammar.specs.Views.{option_of, same, visit_of, attribute_of, occurrence_of, step_of, production_of, grammar_of};
+ghost use Rattle.grammar.specs.Views.{option_of, same, visit_of, attribute_of, occurrence_of, step_of, production_of, grammar_of, scheme_in, production_in};
 ghost use Rattle.std.proofs.Math.ListN.{get_elem?};
 ghost use Rattle.std.specs.Prelude.{◌≡◌, []};
 
-use super::{Attribute, Grammar, Occurrence, Production, Step, VisitNumber};
+use super::{Attribute, Grammar, Occurrence, Production, Scope, Step, VisitNumber};
 use std::alloc::Global;
 
 impl Grammar {
@@ -13,21 +13,13 @@ impl Grammar {
     pub fn last_visit(&self, symbol: usize) -> Option<VisitNumber>
         ensures { option_of visit_of result ≡ get_elem? (grammar_of self.now).visits symbol }
     {
-        if symbol < self.visits.len() {
-            Some(self.visits[symbol])
-        } else {
-            None
-        }
+        self.visits.get(symbol).copied()
     }
 
     pub fn attribute(&self, number: usize) -> Option<Attribute>
         ensures { option_of attribute_of result ≡ get_elem? (grammar_of self.now).attributes number }
     {
-        if number < self.attributes.len() {
-            Some(self.attributes[number])
-        } else {
-            None
-        }
+        self.attributes.get(number).copied()
     }
 }
 
@@ -48,22 +40,10 @@ impl Production {
     pub fn symbol_at(&self, position: usize) -> Option<usize>
         ensures { option_of same result ≡ symbol_at (production_of self.now) position }
     {
-        if position == 0 {
-            return Some(self.left);
+        match position.checked_sub(1) {
+            None => Some(self.left),
+            Some(k) => self.children.get(k).copied(),
         }
-        if position - 1 < self.children.len() {
-            Some(self.children[position - 1])
-        } else {
-            None
-        }
-    }
-}
-
-impl Occurrence {
-    pub fn same_as(self, other: Occurrence) -> bool
-        ensures { result ≡ same_occurrence (occurrence_of self) (occurrence_of other) }
-    {
-        (self.position == other.position) & (self.attribute == other.attribute)
     }
 }
 
@@ -71,10 +51,18 @@ impl Step {
     pub fn is_leave(self) -> bool
         ensures { result ≡ is_leave (step_of self) }
     {
-        match self {
-            Step::Leave(_) => true,
-            Step::Eval(_) => false,
-            Step::Visit(_, _) => false,
-        }
+        matches!(self, Step::Leave(_))
+    }
+}
+
+impl Scope<'_> {
+    // The attribute of the occurrence, if it is one of the symbol at its position.
+    pub fn attribute_at(&self, o: Occurrence) -> Option<Attribute>
+        ensures { option_of attribute_of result ≡ attribute_at (scheme_in self.now) (production_in self.now) (occurrence_of o) }
+    {
+        let symbol = self.production.symbol_at(o.position)?;
+        self.grammar
+            .attribute(o.attribute)
+            .filter(|a| a.symbol == symbol)
     }
 }

@@ -1,10 +1,10 @@
 -- Facts on lists with the things that stand in them left implicit, most of them from ListFacts. Assumes nothing.
-use Rattle.std.proofs.Common.{◌≡◌, ℕ, zero, suc, ◌+◌, ◌<◌, ◌≤◌, Bool, true, false, ◌&&◌, T, eqb, leb, ◌⊎◌, List, [], ◌∷◌, ◌++◌, reverse, length, take, drop, sym, refl, ap, subst, inl, inr, arith, leb→le}
+use Rattle.std.proofs.Common.{◌≡◌, ℕ, zero, suc, ◌<◌, ◌≤◌, Bool, true, false, ◌&&◌, T, eqb, ◌⊎◌, List, [], ◌∷◌, reverse, length, take, drop, sym, refl, ap, subst, inl, inr, arith}
 use mathlib.Core.List.{reverse_aux}
 use mathlib.Core.Option.{Option, none, some}
-use lib.Dec.{eqb_refl, nleb→lt, not_T}
+use lib.Dec.{eqb_refl}
 use Rattle.model.specs.Lists.{Has, any, count}
-use Rattle.model.proofs.Common.ListFacts.{true_of, false_of, either_way, or_split, or_l, or_r, has-below as below, any_here, any-before, count_next, count_skip, count_mono, count_part, any-after, append_left, append_right}
+use Rattle.model.proofs.Common.ListFacts.{false_of, either_way, or_split, or_l, or_r, has-below as below, any_here}
 
 pub some≢none {ℓ} : {A : Type ℓ} {x : A} → some x ≡ none → ⊥
 some≢none {A = A} e = subst (λ (o : Option A). elim o as (λ _. Type 0) [ none ↦ ⊥ | some y ↦ Unit {0} ]) e tt
@@ -18,9 +18,6 @@ some_inj e = cc
 pub true≢false : true ≡ false → ⊥
 true≢false e = subst T e tt
 
-pub ≡→T : {b : Bool} → b ≡ true → T b
-≡→T e = rw e tt
-
 pub T-both : (a b : Bool) → T (a && b) → T a × T b
 T-both true b h = (tt, h)
 T-both false b h = absurd h
@@ -31,12 +28,6 @@ eq→eqb m n e = subst (λ (x : ℕ). T (eqb m x)) e (eqb_refl m)
 module _ {A : Type 0} where
   pub has_one : (xs : List A) (i : ℕ) {x y : A} → Has xs i x → Has xs i y → x ≡ y
   has_one xs i p q = cc
-
-  pub has_left : (xs ys : List A) (i : ℕ) {x : A} → Has xs i x → Has (xs ++ ys) i x
-  has_left xs ys i {x} h = append_left xs ys i x h
-
-  pub has_right : (xs ys : List A) (i : ℕ) {x : A} → Has ys i x → Has (xs ++ ys) (length xs + i) x
-  has_right xs ys i {x} h = append_right xs ys i x h
 
   pub has-below : (xs : List A) (b : ℕ) {x : A} → Has xs b x → b < length xs
   has-below xs b {x} h = below xs b x h
@@ -80,9 +71,6 @@ module _ {A : Type 0} where
   any-drop_mono g (suc b) (suc c) [] l h = h
   any-drop_mono g (suc b) (suc c) (y ∷ xs) l h = any-drop_mono g b c xs (omega arith) h
 
-  pub has-any-drop : (g : A → Bool) (xs : List A) (b : ℕ) {x : A} → Has xs b x → T (g x) → T (any g (drop b xs))
-  has-any-drop g xs b {x} e h = any-after g xs b b x e (omega arith) h
-
   pub any-take_one : (g : A → Bool) (xs : List A) (b : ℕ) → T (any g (take 1 (drop b xs))) → (x : A) × Has xs b x × T (g x)
   any-take_one g [] zero h = elim h [ ]
   any-take_one g [] (suc b) h = elim h [ ]
@@ -93,30 +81,8 @@ module _ {A : Type 0} where
       go (inr p) = absurd p
   any-take_one g (y ∷ xs) (suc b) h = any-take_one g xs b h
 
-  pub has-any-take : (g : A → Bool) (xs : List A) (b c : ℕ) {x : A} → b < c → Has xs b x → T (g x) → T (any g (take c xs))
-  has-any-take g xs b c {x} l e h = any-before g xs b c x e l h
-
-  count_cons_hit : (g : A → Bool) (y : A) (xs : List A) → T (g y) → count g (y ∷ xs) ≡ suc (count g xs)
-  count_cons_hit g y xs h = rw (true_of (g y) h)
-
   count_cons_miss : (g : A → Bool) (y : A) (xs : List A) → (T (g y) → ⊥) → count g (y ∷ xs) ≡ count g xs
   count_cons_miss g y xs h = rw (false_of (g y) h)
-
-  count_cons_le : (g : A → Bool) (y : A) (xs ys : List A) → count g xs ≤ count g ys → count g (y ∷ xs) ≤ count g (y ∷ ys)
-  count_cons_le g y xs ys l = go (either_way (g y))
-    where
-      go : T (g y) ⊎ (T (g y) → ⊥) → count g (y ∷ xs) ≤ count g (y ∷ ys)
-      go (inl h) = rw (true_of (g y) h) (omega arith)
-      go (inr h) = rw (false_of (g y) h) l
-
-  pub count-take_hit : (g : A → Bool) (b : ℕ) (xs : List A) {x : A} → Has xs b x → T (g x) → count g (take (suc b) xs) ≡ suc (count g (take b xs))
-  count-take_hit g b xs {x} e h = count_next g xs b x e h
-
-  pub count-take_miss : (g : A → Bool) (b : ℕ) (xs : List A) {x : A} → Has xs b x → (T (g x) → ⊥) → count g (take (suc b) xs) ≡ count g (take b xs)
-  count-take_miss g b xs {x} e h = count_skip g xs b x e h
-
-  pub count-take_mono : (g : A → Bool) (b c : ℕ) (xs : List A) → b ≤ c → count g (take b xs) ≤ count g (take c xs)
-  count-take_mono g b c xs l = count_mono g xs b c l
 
   last_first : (xs ys : List A) (b : ℕ) {x : A} → Has xs b x → suc b ≡ length xs → (zs : List A) × (reverse_aux xs ys ≡ x ∷ zs)
   last_first [] ys b e l = absurd (some≢none (sym e))
@@ -138,19 +104,8 @@ module _ {A : Type 0} where
           c2 : count g (take 1 (x ∷ r.0)) ≡ 1
           c2 = subst (λ (l : List A). count g (take 1 l) ≡ 1) r.1 c
 
-  pub count-take_le : (g : A → Bool) (b : ℕ) (xs : List A) → count g (take b xs) ≤ count g xs
-  count-take_le g b xs = count_part g xs b
-
   pub take_all : (b : ℕ) (xs : List A) → length xs ≤ b → take b xs ≡ xs
   take_all zero [] l = refl
   take_all (suc b) [] l = refl
   take_all zero (y ∷ xs) l = absurd (omega arith)
   take_all (suc b) (y ∷ xs) l = ap (λ (zs : List A). y ∷ zs) (take_all b xs (omega arith))
-
-  -- fewer among the first b than in all
-  pub count-below : (g : A → Bool) (b : ℕ) (xs : List A) → count g (take b xs) < count g xs → b < length xs
-  count-below g b xs l = go (either_way (leb (length xs) b))
-    where
-      go : T (leb (length xs) b) ⊎ (T (leb (length xs) b) → ⊥) → b < length xs
-      go (inl y) = let e = ap (count g) (take_all b xs (leb→le (length xs) b y)) in absurd (omega arith)
-      go (inr n) = nleb→lt (length xs) b (not_T _ n)

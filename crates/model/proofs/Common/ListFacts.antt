@@ -90,6 +90,7 @@ module _ {ℓ} {A : Type ℓ} where
   pub has_one : (xs : List A) (i : ℕ) (x y : A) → Has xs i x → Has xs i y → x ≡ y
   has_one xs i x y h k = cc
 
+module _ {A : Type 0} where
   pub count_next : (f : A → Bool) (xs : List A) (b : ℕ) (x : A) → Has xs b x → T (f x) → count f (take (suc b) xs) ≡ suc (count f (take b xs))
   count_next f [] b x h t = absurd (some_none x h)
   count_next f (y ∷ ys) zero x h t = let e : f y ≡ true = subst (λ z. f z ≡ true) (sym (some_same y x h)) (true_of (f x) t) in rw e refl
@@ -123,14 +124,6 @@ module _ {ℓ} {A : Type ℓ} where
 
   pub count_less_all : (f : A → Bool) (xs : List A) (a : ℕ) (x : A) → Has xs a x → T (f x) → count f (take a xs) < count f xs
   count_less_all f xs a x h t = let e = count_next f xs a x h t in let m = count_part f xs (suc a) in omega arith
-
-  -- fewer counted: an earlier place
-  pub count_order : (f : A → Bool) (xs : List A) (a b : ℕ) → count f (take a xs) < count f (take b xs) → a < b
-  count_order f xs a b l = go (le_or_lt b a)
-    where
-      go : (b ≤ a) ⊎ (a < b) → a < b
-      go (inl h) = let m = count_mono f xs b a h in omega arith
-      go (inr h) = h
 
   pub count_like : (f g : A → Bool) (xs : List A) → ((x : A) → f x ≡ g x) → count f xs ≡ count g xs
   count_like f g [] e = refl

@@ -36,7 +36,7 @@ pub all_has {ℓ} : {A : Type ℓ} (P : A → Type 0) (xs : List A) → ((k : �
 all_has P [] h = tt
 all_has P (x ∷ xs) h = (h 0 x refl, all_has P xs (λ k y e. h (suc k) y e))
 
-pub all_keep {ℓ} : {A : Type ℓ} (P : A → Type 0) (f : A → Bool) (xs : List A) → All P xs → All P (keep f xs)
+pub all_keep : {A : Type 0} (P : A → Type 0) (f : A → Bool) (xs : List A) → All P xs → All P (keep f xs)
 all_keep P f [] a = tt
 all_keep P f (x ∷ xs) a = go (f x) (all_keep P f xs a.1)
   where

@@ -1,9 +1,9 @@
 -- General facts about tests and lists.
-use Rattle.std.proofs.Common.{◌≡◌, ℕ, zero, suc, ◌+◌, ◌<◌, ◌≤◌, Bool, true, false, cond, not, ◌||◌, T, ◌⊎◌, List, [], ◌∷◌, length, take, drop, sym, refl, ap, subst, inl, inr, arith, T_not}
+use Rattle.std.proofs.Common.{◌≡◌, ℕ, zero, suc, ◌+◌, ◌<◌, ◌≤◌, Bool, true, false, cond, not, ◌||◌, T, ◌⊎◌, List, [], ◌∷◌, length, take, sym, refl, ap, subst, inl, inr, arith, T_not}
 use mathlib.Core.Option.{some}
 use Rattle.model.specs.Lists.{Has, any, every, count, keep, places}
 use Rattle.model.specs.Spans.{first_of, last_of}
-use Rattle.model.proofs.Common.ListFacts.{true_of, of_true, and_mk, any_here, any_find, count_next, count_skip, count_mono as count-rises, count_part, count_less, count_less_all, once_alone, has-take as in_take, take-has as from-take, before-any, any-before, after_any, any-after}
+use Rattle.model.proofs.Common.ListFacts.{true_of, of_true, and_mk, any_here, count_mono as count-rises, count_less, count_less_all, has-take as in_take, take-has as from-take}
 use Rattle.model.proofs.Common.Basics.{T-both}
 
 pub T_false : (x : Bool) → T (not x) → x ≡ false
@@ -36,9 +36,6 @@ module _ {A : Type 0} where
   module _ (f : A → Bool) where
     pub has-any : (xs : List A) (t : ℕ) (x : A) → Has xs t x → T (f x) → T (any f xs)
     has-any xs t x h p = any_here f xs t x h p
-
-    pub any-has : (xs : List A) → T (any f xs) → (t : ℕ) × (x : A) × Has xs t x × T (f x)
-    any-has xs h = any_find f xs h
 
     pub every_mem : (xs : List A) (x : A) → T (every f xs) → Mem x xs → T (f x)
     every_mem [] x h m = absurd m
@@ -80,18 +77,8 @@ module _ {A : Type 0} where
         go true r = ap suc r
         go false r = r
 
-    -- count in a front
-    pub count_step_yes : (xs : List A) (t : ℕ) (x : A) → Has xs t x → T (f x) → count f (take (suc t) xs) ≡ suc (count f (take t xs))
-    count_step_yes xs t x h p = count_next f xs t x h p
-
-    pub count_step_no : (xs : List A) (t : ℕ) (x : A) → Has xs t x → T (not (f x)) → count f (take (suc t) xs) ≡ count f (take t xs)
-    count_step_no xs t x h p = count_skip f xs t x h (T_not (f x) p)
-
     pub count_mono : (xs : List A) (m n : ℕ) → m ≤ n → count f (take m xs) ≤ count f (take n xs)
     count_mono xs m n h = count-rises f xs m n h
-
-    pub count_le_all : (xs : List A) (n : ℕ) → count f (take n xs) ≤ count f xs
-    count_le_all xs n = count_part f xs n
 
     pub count_strict : (xs : List A) (t n : ℕ) (x : A) → Has xs t x → T (f x) → t < n → count f (take t xs) < count f (take n xs)
     count_strict xs t n x h p l = count_less f xs t n x h p l
@@ -107,28 +94,12 @@ module _ {A : Type 0} where
         go true e r k = tt
         go false e r k = r k
 
-    -- where exactly one place has the property
-    pub once_same : (xs : List A) (t u : ℕ) (x y : A) → count f xs ≡ 1 → Has xs t x → T (f x) → Has xs u y → T (f y) → t ≡ u
-    once_same xs t u x y e h p g q = once_alone f xs e t u x y h p g q
-
     -- a front and what comes after it
     pub has-take : (xs : List A) (n t : ℕ) (x : A) → Has xs t x → t < n → Has (take n xs) t x
     has-take xs n t x h l = in_take xs t n x h l
 
     pub take-has : (xs : List A) (n t : ℕ) (x : A) → Has (take n xs) t x → (t < n) × Has xs t x
     take-has xs n t x h = from-take xs t n x h
-
-    pub any-take : (xs : List A) (n : ℕ) → T (any f (take n xs)) → (t : ℕ) × (x : A) × (t < n) × Has xs t x × T (f x)
-    any-take xs n h = before-any f xs n h
-
-    pub take-any : (xs : List A) (n t : ℕ) (x : A) → Has xs t x → T (f x) → t < n → T (any f (take n xs))
-    take-any xs n t x h p l = any-before f xs t n x h l p
-
-    pub any-drop : (xs : List A) (n : ℕ) → T (any f (drop n xs)) → (t : ℕ) × (x : A) × (n ≤ t) × Has xs t x × T (f x)
-    any-drop xs n h = after_any f xs n h
-
-    pub drop-any : (xs : List A) (n t : ℕ) (x : A) → Has xs t x → T (f x) → n ≤ t → T (any f (drop n xs))
-    drop-any xs n t x h p l = any-after f xs t n x h l p
 
     -- places
     pub places_mem : (xs : List A) (n t : ℕ) (x : A) → Has xs t x → T (f x) → Mem (n + t) (places f n xs)

@@ -2,34 +2,45 @@
 ghost use Rattle.plan.specs.Settled.{letters_of};
 ghost use Rattle.plan.specs.Text.{mark, plan_line};
 ghost use Rattle.plan.specs.Views.{letter_of};
-ghost use Rattle.std.specs.Prelude.{◌≡◌, IfOk, string_bytes};
+ghost use Rattle.std.specs.Prelude.{◌≡◌, IfOk, Some, string_bytes};
 
 use super::super::letter::Letter;
 use super::Plan;
 use std::alloc::{AllocError, Global};
+use std::fmt;
 
-impl Letter {
-    // C, S or K.
-    fn mark(self) -> &'static str
-        ensures { result.now ≡ mark (letter_of self) }
-    {
-        match self {
-            Letter::Single => "C",
-            Letter::Stacked => "S",
-            Letter::Kept => "K",
+// C, S or K.
+impl fmt::Display for Letter {
+    ghost output = { λ l. Some (mark (letter_of l)) };
+
+    fn fmt<W: fmt::Write>(&self, f: &mut fmt::Formatter<W>) -> fmt::Result {
+        match *self {
+            Letter::Single => write!(f, "C"),
+            Letter::Stacked => write!(f, "S"),
+            Letter::Kept => write!(f, "K"),
         }
     }
 }
 
+// `plan`, a space, and a letter for each attribute.
+impl fmt::Display for Plan {
+    ghost output = { λ p. Some (plan_line (letters_of p)) };
+
+    fn fmt<W: fmt::Write>(&self, f: &mut fmt::Formatter<W>) -> fmt::Result {
+        write!(f, "plan ")?;
+        for attribute in &self.attributes {
+            let letter = attribute.letter;
+            write!(f, "{letter}")?;
+        }
+        Ok(())
+    }
+}
+
 impl Plan {
-    // `plan`, a space, and a letter for each attribute.
+    // The line as text of its own.
     pub fn line(&self, heap: Global) -> Result<String, AllocError>
         ensures { IfOk result (λ t. string_bytes t ≡ plan_line (letters_of self.now)) }
     {
-        let mut line = String::from_str(heap, "plan ")?;
-        for n in 0..self.letters.len() {
-            line.push_str(self.letters[n].mark())?;
-        }
-        Ok(line)
+        format!(in heap; "{self}")
     }
 }

@@ -1,29 +1,30 @@
 // The spans of an attribute in a production.
-ghost use Rattle.std.specs.Prelude.{◌≡◌, ◌≤◌, map, length, IfOk};
+ghost use Rattle.std.specs.Prelude.{◌≡◌, map, IfOk};
 ghost use Rattle.model.specs.Scheme.{Scheme};
-ghost use Rattle.model.specs.Spans.{span_on, spans, open_during, attribute_sections};
-ghost use Rattle.grammar.specs.Views.{attribute_of, production_of, side_of};
-ghost use Rattle.plan.specs.Views.{sections_of, span_of};
+ghost use Rattle.model.specs.Spans.{span_on, spans, open_during};
+ghost use Rattle.grammar.specs.Views.{attribute_of, side_of};
+ghost use Rattle.plan.specs.Figures.{Sectioned};
+ghost use Rattle.plan.specs.Views.{bounded_of, sections_of, span_of};
 
+use super::super::bounded::Bounded;
 use super::places::{first_giving, first_visit, last_reading};
-use super::{Sections, Span};
-use grammar::{Attribute, ChildNumber, Occurrence, Production, Side};
+use super::{Figure, Span};
+use grammar::{ChildNumber, Occurrence, Side};
 use std::alloc::{AllocError, Global};
 
-// The span at a child of attribute a, by its side and its sections. An inherited one opens at the EVAL that gives it, and closes after the VISIT of its last
+// The span of the figure at a child. An inherited one opens at the EVAL that gives it, and closes after the VISIT of its last
 // section. A synthesized one opens before the VISIT of its first section, and closes at the last EVAL that reads it, or after the VISIT of its last section.
-pub(crate) fn span_at(p: &Production, a: usize, side: Side, w: Sections, child: ChildNumber) -> Span
-    requires { length p.now.steps.items ≤ 64 }
-    ensures { span_of result ≡ span_on (production_of p.now) a (side_of side) (sections_of w) child.0 }
+pub(crate) fn span_at(p: &Bounded, figure: Figure, child: ChildNumber) -> Span
+    ensures { span_of result ≡ span_on (bounded_of p.now) figure.number (side_of figure.attribute.side) (sections_of figure.sections) child.0 }
 {
     let o = Occurrence {
         position: usize::from(child.0),
-        attribute: a,
+        attribute: figure.number,
     };
-    let last = first_visit(p, child, w.last);
-    match side {
+    let last = first_visit(p.production, child, figure.sections.last);
+    match figure.attribute.side {
         Side::Inherited => {
-            let opens_at = first_giving(p, o);
+            let opens_at = first_giving(p.production, o);
             Span {
                 child,
                 opens_at,
@@ -33,8 +34,8 @@ pub(crate) fn span_at(p: &Production, a: usize, side: Side, w: Sections, child: 
             }
         }
         Side::Synthesized => {
-            let opens_at = first_visit(p, child, w.first);
-            let closes_at = last_reading(p, o, last);
+            let opens_at = first_visit(p.production, child, figure.sections.first);
+            let closes_at = last_reading(p.production, o, last);
             Span {
                 child,
                 opens_at,
@@ -46,25 +47,18 @@ pub(crate) fn span_at(p: &Production, a: usize, side: Side, w: Sections, child: 
     }
 }
 
-// The spans of attribute a, which is b, at the children that are its symbol.
-pub(crate) fn spans_of(
-    heap: Global,
-    p: &Production,
-    a: usize,
-    b: Attribute,
-    w: Sections,
-) -> Result<Vec<Span>, AllocError>
-    requires steps { length p.now.steps.items ≤ 64 }
-    requires children { length p.now.children.items ≤ 6 }
-    ensures { IfOk result (λ v. ((s : Scheme) → sections_of w ≡ attribute_sections s a (attribute_of b) → map span_of v.items ≡ spans s a (attribute_of b) (production_of p.now))) }
+// The spans of the figure at the children that are its symbol.
+pub(crate) fn spans_of(heap: Global, p: &Bounded, figure: Figure) -> Result<Vec<Span>, AllocError>
+    ensures { IfOk result (λ v. ((s : Scheme) → Sectioned s figure → map span_of v.items ≡ spans s figure.number (attribute_of figure.attribute) (bounded_of p.now))) }
 {
-    let mut spans = Vec::new(heap);
-    for k in 0..p.children.len() {
-        if p.children[k] == b.symbol {
-            spans.push(span_at(p, a, b.side, w, ChildNumber(k as u8 + 1)))?;
-        }
-    }
-    Ok(spans)
+    p.production
+        .children
+        .iter()
+        .enumerate()
+        .filter(|(_, symbol)| **symbol == figure.attribute.symbol)
+        // a production has at most six children, so the number fits
+        .map(|(k, _)| span_at(p, figure, ChildNumber(k as u8 + 1)))
+        .collect(heap)
 }
 
 impl Span {
@@ -72,6 +66,6 @@ impl Span {
     pub(crate) fn is_open(self, moment: usize) -> bool
         ensures { result ≡ open_during moment (span_of self) }
     {
-        (self.opens <= moment) & (moment < self.closes)
+        (self.opens..self.closes).contains(&moment)
     }
 }

@@ -13,12 +13,10 @@ pub(super) fn first_visit(p: &Production, child: ChildNumber, visit: VisitNumber
     ensures value { result ≡ place_of (production_of p.now) (is_visit child.0 (visit_of visit)) }
     ensures bound { result ≤ length p.now.steps.items }
 {
-    for t in 0..p.steps.len() {
-        if p.steps[t].visits(usize::from(child.0), visit) {
-            return t;
-        }
-    }
-    0
+    p.steps
+        .iter()
+        .position(|step| step.visits(usize::from(child.0), visit))
+        .unwrap_or(0)
 }
 
 // The first step that gives the occurrence its value, or 0.
@@ -26,12 +24,10 @@ pub(super) fn first_giving(p: &Production, o: Occurrence) -> usize
     ensures value { result ≡ place_of (production_of p.now) (λ st. defines (production_of p.now) st (occurrence_of o)) }
     ensures bound { result ≤ length p.now.steps.items }
 {
-    for t in 0..p.steps.len() {
-        if p.gives(p.steps[t], o) {
-            return t;
-        }
-    }
-    0
+    p.steps
+        .iter()
+        .position(|step| p.gives(*step, o))
+        .unwrap_or(0)
 }
 
 // The last step that reads the occurrence, or the given one.
@@ -39,11 +35,8 @@ pub(super) fn last_reading(p: &Production, o: Occurrence, otherwise: usize) -> u
     ensures value { result ≡ last_of otherwise (places (λ st. uses (production_of p.now) st (occurrence_of o)) 0 (production_of p.now).steps) }
     ensures bound { result ≤ max otherwise (length p.now.steps.items) }
 {
-    let mut last = otherwise;
-    for t in 0..p.steps.len() {
-        if p.reads(p.steps[t], o) {
-            last = t;
-        }
-    }
-    last
+    p.steps
+        .iter()
+        .rposition(|step| p.reads(*step, o))
+        .unwrap_or(otherwise)
 }

@@ -1,90 +1,70 @@
-// How deep a value lies on the stack of its attribute.
-ghost use Rattle.model.specs.Lists.{count};
+// How deep a value lies on the stack of its attribute. The bound on a position stands at three functions: a type for an occurrence within it would have to be made
+// anew of each argument of a rule.
 ghost use Rattle.model.specs.Spans.{open_during};
 ghost use Rattle.model.specs.Tables as Tables;
-ghost use Rattle.model.specs.Tables.{all_sections};
 ghost use Rattle.plan.specs.Depths.{after, Floor};
-ghost use Rattle.plan.specs.Views.{sections_of, span_of, stack_span_of};
-ghost use Rattle.grammar.specs.Views.{grammar_of, occurrence_of, option_of, production_of, same};
-ghost use Rattle.std.specs.Prelude.{◌≡◌, ℕ, ◌<◌, ◌≤◌, ◌&&◌, map, length, IfOk, ◌==◌, slice_index_or};
+ghost use Rattle.plan.specs.Layouts.{scheme_in, production_in, held_in};
+ghost use Rattle.plan.specs.Views.{span_of};
+ghost use Rattle.grammar.specs.Views.{occurrence_of};
+ghost use Rattle.std.specs.Prelude.{◌≡◌, ◌≤◌, ◌&&◌, map, All, IfOk, ◌==◌};
 
-use super::super::span::{Sections, span_at};
+use super::super::span::span_at;
 use super::StackSpan;
-use grammar::{ChildNumber, Grammar, Occurrence, Production};
+use super::layout::Layout;
+use grammar::{ChildNumber, Occurrence};
 use std::alloc::{AllocError, Global};
 
-// The moment at which the occurrence's own span opens; none at the left symbol, whose value lies below all that the production has open.
-fn floor_of(g: &Grammar, p: &Production, sections: &[Sections], o: Occurrence) -> Option<usize>
-    requires steps { length p.now.steps.items ≤ 64 }
-    requires sectioned { map sections_of sections.now ≡ all_sections (grammar_of g.now) }
-    requires placed { o.position ≤ 6 }
-    ensures { Floor (grammar_of g.now) (production_of p.now) (occurrence_of o) (option_of same result) }
-{
-    if o.position == 0 {
-        return None;
+impl StackSpan {
+    // It is one of the attribute, is open at the moment, and has opened after the floor.
+    fn lies_above(&self, attribute: usize, floor: Option<usize>, moment: usize) -> bool
+        ensures { result ≡ (self.now.attribute == attribute && (open_during moment (span_of self.now.span) && after floor self.now.span.opens)) }
+    {
+        self.attribute == attribute
+            && self.span.is_open(moment)
+            && floor.is_none_or(|opened| opened < self.span.opens)
     }
-    let b = g.attribute(o.attribute)?;
-    let child = ChildNumber(o.position as u8);
-    Some(span_at(p, o.attribute, b.side, sections[o.attribute], child).opens)
 }
 
-// The span is one of the attribute, is open at the moment, and has opened after the floor.
-fn lies_above(h: StackSpan, attribute: usize, floor: Option<usize>, moment: usize) -> bool
-    ensures { result ≡ (h.attribute == attribute && (open_during moment (span_of h.span) && after (option_of same floor) h.span.opens)) }
-{
-    let opened_after = match floor {
-        None => true,
-        Some(opened) => opened < h.span.opens,
-    };
-    (h.attribute == attribute) & (h.span.is_open(moment) & opened_after)
-}
-
-// How many of the spans lie above a value of the attribute whose own span opens at the floor.
-fn count_above(held: &[StackSpan], attribute: usize, floor: Option<usize>, moment: usize) -> usize
-    ensures { result ≡ count (λ h. (h.attribute == attribute) && (open_during moment h.span && after (option_of same floor) h.span.opens)) (map stack_span_of held.now) }
-{
-    let mut n = 0;
-    for h in held {
-        n += usize::from(lies_above(*h, attribute, floor, moment));
+impl Layout<'_> {
+    // The moment at which the occurrence's own span opens; none at the left symbol, whose value lies below all that the production has open.
+    fn floor_of(&self, o: Occurrence) -> Option<usize>
+        requires placed { o.position ≤ 6 }
+        ensures { Floor (scheme_in self.now) (production_in self.now) (occurrence_of o) result }
+    {
+        if o.position == 0 {
+            return None;
+        }
+        let attribute = self.figures.scheme.grammar().attribute(o.attribute)?;
+        let figure = self.figures.figure(o.attribute, attribute);
+        let child = ChildNumber(o.position as u8);
+        Some(span_at(&self.bounded, figure, child).opens)
     }
-    n
-}
 
-// How many of the spans lie above the occurrence on its attribute's stack at the moment.
-pub(super) fn depth_of(
-    g: &Grammar,
-    p: &Production,
-    sections: &[Sections],
-    held: &[StackSpan],
-    moment: usize,
-    o: Occurrence,
-) -> usize
-    requires steps { length p.now.steps.items ≤ 64 }
-    requires sectioned { map sections_of sections.now ≡ all_sections (grammar_of g.now) }
-    requires placed { o.position ≤ 6 }
-    ensures { result ≡ Tables.depth (grammar_of g.now) (production_of p.now) (map stack_span_of held.now) moment (occurrence_of o) }
-{
-    count_above(held, o.attribute, floor_of(g, p, sections, o), moment)
-}
-
-// The depths of the occurrences.
-pub(super) fn depths_of(
-    heap: Global,
-    g: &Grammar,
-    p: &Production,
-    sections: &[Sections],
-    held: &[StackSpan],
-    moment: usize,
-    occurrences: &[Occurrence],
-) -> Result<Vec<usize>, AllocError>
-    requires steps { length p.now.steps.items ≤ 64 }
-    requires sectioned { map sections_of sections.now ≡ all_sections (grammar_of g.now) }
-    requires placed { (k : ℕ) → k < length occurrences.now → (slice_index_or occurrences.now k (record { position = 0; attribute = 0 })).position ≤ 6 }
-    ensures { IfOk result (λ v. v.items ≡ map (Tables.depth (grammar_of g.now) (production_of p.now) (map stack_span_of held.now) moment) (map occurrence_of occurrences.now)) }
-{
-    let mut depths = Vec::new(heap);
-    for o in occurrences {
-        depths.push(depth_of(g, p, sections, held, moment, *o))?;
+    // How many of the spans lie above the occurrence on its attribute's stack at the moment.
+    pub(super) fn depth_of(&self, moment: usize, o: Occurrence) -> usize
+        requires placed { o.position ≤ 6 }
+        ensures { result ≡ Tables.depth (scheme_in self.now) (production_in self.now) (held_in self.now) moment (occurrence_of o) }
+    {
+        let floor = self.floor_of(o);
+        self.held
+            .iter()
+            .filter(|h| h.lies_above(o.attribute, floor, moment))
+            .count()
     }
-    Ok(depths)
+
+    // The depths of the occurrences.
+    pub(super) fn depths_of(
+        &self,
+        heap: Global,
+        moment: usize,
+        occurrences: &[Occurrence],
+    ) -> Result<Vec<usize>, AllocError>
+        requires placed { All (λ o. o.position ≤ 6) occurrences.now }
+        ensures { IfOk result (λ v. v.items ≡ map (Tables.depth (scheme_in self.now) (production_in self.now) (held_in self.now) moment) (map occurrence_of occurrences.now)) }
+    {
+        occurrences
+            .iter()
+            .map(|o| self.depth_of(moment, *o))
+            .collect(heap)
+    }
 }

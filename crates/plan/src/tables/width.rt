@@ -2,41 +2,35 @@
 ghost use Rattle.model.specs.Lists.{count};
 ghost use Rattle.model.specs.Spans.{open_during};
 ghost use Rattle.model.specs.Tables.{most_open, widest_of};
-ghost use Rattle.plan.specs.Views.{production_table_of, stack_span_of};
-ghost use Rattle.std.specs.Prelude.{◌≡◌, ◌*◌, ◌≤◌, map};
+ghost use Rattle.plan.specs.Layouts.{production_in, held_in};
+ghost use Rattle.plan.specs.Views.{production_table_of};
+ghost use Rattle.std.specs.Prelude.{◌≡◌, ◌*◌, map, length};
 
-use super::{ProductionTable, StackSpan};
+use super::ProductionTable;
+use super::layout::Layout;
 
-// How many of the spans are open at the moment.
-fn open_at(held: &[StackSpan], moment: usize) -> usize
-    ensures { result ≡ count (λ h. open_during moment h.span) (map stack_span_of held.now) }
-{
-    let mut n = 0;
-    for h in held {
-        n += usize::from(h.span.is_open(moment));
+impl Layout<'_> {
+    // How many of the spans are open at the moment.
+    fn open_at(&self, moment: usize) -> usize
+        ensures { result ≡ count (λ h. open_during moment h.span) (held_in self.now) }
+    {
+        self.held.iter().filter(|h| h.span.is_open(moment)).count()
     }
-    n
-}
 
-// The most of the spans that are open at one moment of so many steps.
-pub(super) fn width_of(held: &[StackSpan], steps: usize) -> usize
-    requires { steps ≤ 64 }
-    ensures { result ≡ most_open (map stack_span_of held.now) (3 * steps) }
-{
-    let mut most: usize = 0;
-    for moment in 0..3 * steps {
-        most = most.max(open_at(held, moment));
+    // The most of the spans that are open at one moment of the steps.
+    pub(super) fn width(&self) -> usize
+        ensures { result ≡ most_open (held_in self.now) (3 * length (production_in self.now).steps) }
+    {
+        (0..3 * self.bounded.production.steps.len())
+            .map(|moment| self.open_at(moment))
+            .max()
+            .unwrap_or(0)
     }
-    most
 }
 
 // The width of the widest production.
 pub(crate) fn widest_of(tables: &[ProductionTable]) -> usize
     ensures { result ≡ widest_of (map production_table_of tables.now) }
 {
-    let mut widest: usize = 0;
-    for table in tables {
-        widest = widest.max(table.width);
-    }
-    widest
+    tables.iter().map(|table| table.width).max().unwrap_or(0)
 }

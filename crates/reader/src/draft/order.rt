@@ -1,43 +1,38 @@
 // Which kinds of word may come next, and what comes after them.
-ghost use Rattle.std.specs.Prelude.{◌≡◌, ◌-◌, nat_eq};
+ghost use Rattle.std.specs.Prelude.{◌≡◌, nat_eq};
 ghost use Rattle.model.specs.Lists.{any};
-ghost use Rattle.model.specs.Words.{kinds, after_children, after_arguments, one_less};
-ghost use Rattle.reader.specs.Reading.{next_of};
+ghost use Rattle.model.specs.Words.{kinds, one_less};
+ghost use Rattle.reader.specs.Kinds.{number_of};
+ghost use Rattle.reader.specs.Reading.{next_of, settled};
 
 use super::Next;
+use crate::kind::Kind;
 
 impl Next {
-    pub(super) fn allows(self, kind: u32) -> bool
-        ensures { result ≡ any (nat_eq kind) (kinds (next_of self)) }
+    pub(super) fn allows(self, kind: Kind) -> bool
+        ensures { result ≡ any (nat_eq (number_of kind)) (kinds (next_of self)) }
     {
         match self {
-            Next::FirstSymbol => kind == 1,
-            Next::Symbols => (kind == 1) | (kind == 2) | (kind == 3),
-            Next::Children(_) => kind == 4,
-            Next::Rules => (kind == 5) | (kind == 7) | (kind == 8) | (kind == 9),
-            Next::Arguments(_) => kind == 6,
-            Next::Steps => (kind == 3) | (kind == 7) | (kind == 8) | (kind == 9) | (kind == 15),
+            Next::FirstSymbol => kind == Kind::Symbol,
+            Next::Symbols => matches!(kind, Kind::Symbol | Kind::Attribute | Kind::Production),
+            Next::Children(_) => kind == Kind::Child,
+            Next::Rules => matches!(kind, Kind::Rule | Kind::Eval | Kind::Visit | Kind::Leave),
+            Next::Arguments(_) => kind == Kind::Argument,
+            Next::Steps => matches!(
+                kind,
+                Kind::Production | Kind::Eval | Kind::Visit | Kind::Leave | Kind::End
+            ),
             Next::Nothing => false,
         }
     }
 
-    pub(super) fn after_children(left: usize) -> Next
-        ensures { next_of result ≡ after_children left }
+    // Rules come where no child and no argument is left to come.
+    pub(super) fn settled(self) -> Next
+        ensures { next_of result ≡ settled (next_of self) }
     {
-        if left == 0 {
-            Next::Rules
-        } else {
-            Next::Children(left)
-        }
-    }
-
-    pub(super) fn after_arguments(left: usize) -> Next
-        ensures { next_of result ≡ after_arguments left }
-    {
-        if left == 0 {
-            Next::Rules
-        } else {
-            Next::Arguments(left)
+        match self {
+            Next::Children(0) | Next::Arguments(0) => Next::Rules,
+            other => other,
         }
     }
 
@@ -46,8 +41,8 @@ impl Next {
         ensures { next_of result ≡ one_less (next_of self) }
     {
         match self {
-            Next::Children(left) => Next::after_children(left.saturating_sub(1)),
-            Next::Arguments(left) => Next::after_arguments(left.saturating_sub(1)),
+            Next::Children(left) => Next::Children(left.saturating_sub(1)).settled(),
+            Next::Arguments(left) => Next::Arguments(left.saturating_sub(1)).settled(),
             other => other,
         }
     }

@@ -1,11 +1,13 @@
 // Reads a scheme's words entry by entry.
-ghost use Rattle.std.specs.Prelude.{◌≡◌, ◌+◌, ◌^◌, ◌<◌, [], length};
+ghost use Rattle.std.specs.Prelude.{◌≡◌, [], length};
 ghost use Rattle.model.specs.Words.{at_first, read_from};
 ghost use Rattle.reader.specs.Entries.{part_of};
-ghost use Rattle.reader.specs.Reading.{sofar_of, Reads, ReadAs, Ends};
+ghost use Rattle.reader.specs.Reading.{sofar_of, Took, Reads, ReadAs, Ends};
 
-use super::super::entry::{Entry, Part, entry_at};
 use super::{Draft, Next};
+use crate::entries::Entries;
+use crate::entry::Entry;
+use crate::part::Part;
 use grammar::{Grammar, Production, Refusal};
 use std::alloc::Global;
 
@@ -20,47 +22,57 @@ impl Draft {
             productions: Vec::new(heap),
         };
         Draft {
+            heap,
             whole,
             current: Production::new(heap, 0),
             next: Next::FirstSymbol,
         }
     }
 
-    // Each word in turn, the first of them at this place.
-    fn take_words(&mut self, heap: Global, place: usize, words: &[u32]) -> Result<(), Refusal>
-        requires { place + length words.now < 2 ^ 64 }
-        ensures { Reads (sofar_of self.old) place words.now result (sofar_of self.new) }
+    // The word at this place: it is taken, or refused by the first cause there is.
+    fn take_word(&mut self, place: usize, word: u32) -> Result<(), Refusal>
+        ensures { Took (sofar_of self.old) place word result (sofar_of self.new) }
     {
-        for (i, w) in words.iter().enumerate() {
-            self.take_word(heap, place + i, *w)?;
+        let form = self.judge(place, word)?;
+        self.add(form)
+    }
+
+    // Each word of the part in turn.
+    fn take_part(&mut self, part: Part<'_>) -> Result<(), Refusal>
+        ensures { Reads (sofar_of self.old) part.entry.place part.entry.words.now result (sofar_of self.new) }
+    {
+        for (i, word) in part.words.iter().enumerate() {
+            self.take_word(part.place + i, *word)?;
         }
         Ok(())
     }
 
     // A rule's word, and then its arguments'.
-    fn take_rule(&mut self, heap: Global, part: Part<'_>) -> Result<(), Refusal>
-        requires { part.place + length part.words.now < 2 ^ 64 }
+    fn take_rule(&mut self, part: Part<'_>) -> Result<(), Refusal>
         ensures { Reads (sofar_of self.old) part.entry.place part.entry.words.now result (sofar_of self.new) }
     {
         match part.words {
             [] => Ok(()),
             [rule, arguments @ ..] => {
-                self.take_word(heap, part.place, *rule)?;
-                self.take_words(heap, part.place + 1, arguments)
+                self.take_word(part.place, *rule)?;
+                self.take_part(Part {
+                    place: part.place + 1,
+                    words: arguments,
+                })
             }
         }
     }
 
-    fn take_entry(&mut self, heap: Global, entry: Entry<'_>) -> Result<(), Refusal>
-        requires { (part_of entry).place + length (part_of entry).words.now < 2 ^ 64 }
+    // Each word of the entry in turn.
+    fn take_entry(&mut self, entry: Entry<'_>) -> Result<(), Refusal>
         ensures { Reads (sofar_of self.old) (part_of entry.entry).place (part_of entry.entry).words.now result (sofar_of self.new) }
     {
         match entry {
-            Entry::Rule(part) => self.take_rule(heap, part),
+            Entry::Rule(part) => self.take_rule(part),
             Entry::Symbol(part)
             | Entry::Production(part)
             | Entry::Step(part)
-            | Entry::Other(part) => { self.take_words(heap, part.place, part.words) }
+            | Entry::Other(part) => self.take_part(part),
         }
     }
 
@@ -80,10 +92,8 @@ pub fn read_grammar(heap: Global, words: &[u32]) -> Result<Grammar, Refusal>
     ensures { ReadAs words.now result }
 {
     let mut draft = Draft::new(heap);
-    let mut place = 0;
-    while let Some(entry) = entry_at(words, place) {
-        draft.take_entry(heap, entry)?;
-        place += entry.part().words.len();
+    for entry in Entries::of(words) {
+        draft.take_entry(entry)?;
     }
-    draft.finish(place)
+    draft.finish(words.len())
 }

@@ -1,50 +1,34 @@
 // Every rule of a grammar, in the order of checking.
-ghost use Rattle.std.specs.Prelude.{◌<◌, vec_len};
+ghost use Rattle.model.specs.Lists.{Has};
 ghost use Rattle.model.specs.Formed.{Formed};
-ghost use Rattle.scheme.specs.Verdicts.{SymbolsJudged, ProductionJudged, SchemeJudged};
-ghost use Rattle.grammar.specs.Views.{grammar_of};
+ghost use Rattle.scheme.specs.Verdicts.{ProductionJudged, SchemeJudged};
+ghost use Rattle.grammar.specs.Views.{grammar_of, scheme_in, production_in};
 
 use super::evaluated::is_evaluated;
-use super::finite::first_endless;
+use super::marks::first_left_out;
 use super::ordered::first_early;
-use super::reached::first_unreached;
 use super::root::is_rooted;
 use super::ruled::is_ruled;
 use super::sequenced::is_sequenced;
-use grammar::{Grammar, Refusal};
+use super::spread::Spread;
+use grammar::{Grammar, Refusal, Scope};
 use std::alloc::Global;
 
-fn judge_symbols(heap: Global, g: &Grammar) -> Result<(), Refusal>
-    requires { Formed (grammar_of g.now) }
-    ensures { SymbolsJudged (grammar_of g.now) result }
+// The production, at its place in the grammar.
+fn judge_production(scope: &Scope<'_>, production: usize) -> Result<(), Refusal>
+    requires { Has (scheme_in scope.now).productions production (production_in scope.now) }
+    ensures { ProductionJudged (scheme_in scope.now) production result }
 {
-    if !is_rooted(g) {
-        return Err(Refusal::BadRoot { symbol: 0 });
-    }
-    if let Some(symbol) = first_endless(heap, g)? {
-        return Err(Refusal::NoFiniteTree { symbol });
-    }
-    if let Some(symbol) = first_unreached(heap, g)? {
-        return Err(Refusal::OutOfReach { symbol });
-    }
-    Ok(())
-}
-
-fn judge_production(g: &Grammar, production: usize) -> Result<(), Refusal>
-    requires { production < vec_len g.now.productions }
-    ensures { ProductionJudged (grammar_of g.now) production result }
-{
-    let p = &g.productions[production];
-    if !is_ruled(g, p) {
+    if !is_ruled(scope) {
         return Err(Refusal::NotRuledOnce { production });
     }
-    if !is_evaluated(p) {
+    if !is_evaluated(scope.production) {
         return Err(Refusal::NotEvaluatedOnce { production });
     }
-    if !is_sequenced(g, p) {
+    if !is_sequenced(scope) {
         return Err(Refusal::BadSequence { production });
     }
-    if let Some(step) = first_early(g, p) {
+    if let Some(step) = first_early(scope) {
         return Err(Refusal::TooEarly { production, step });
     }
     Ok(())
@@ -55,9 +39,21 @@ pub(crate) fn judge_scheme(heap: Global, g: &Grammar) -> Result<(), Refusal>
     requires { Formed (grammar_of g.now) }
     ensures { SchemeJudged (grammar_of g.now) result }
 {
-    judge_symbols(heap, g)?;
-    for production in 0..g.productions.len() {
-        judge_production(g, production)?;
+    if !is_rooted(g) {
+        return Err(Refusal::BadRoot { symbol: 0 });
+    }
+    if let Some(symbol) = first_left_out(heap, g, Spread::Up)? {
+        return Err(Refusal::NoFiniteTree { symbol });
+    }
+    if let Some(symbol) = first_left_out(heap, g, Spread::Down)? {
+        return Err(Refusal::OutOfReach { symbol });
+    }
+    for (number, production) in g.productions.iter().enumerate() {
+        let scope = Scope {
+            grammar: g,
+            production,
+        };
+        judge_production(&scope, number)?;
     }
     Ok(())
 }

@@ -3,75 +3,60 @@ ghost use Rattle.model.specs.Lawful.{Ruled, Defined};
 ghost use Rattle.model.specs.Lists.{count};
 ghost use Rattle.model.specs.Scheme.{same_occurrence};
 ghost use Rattle.scheme.specs.Ruling.{RuledOnce, side_defined};
-ghost use Rattle.grammar.specs.Views.{grammar_of, production_of, occurrence_of, rule_of, side_of};
+ghost use Rattle.grammar.specs.Views.{scheme_in, production_in, occurrence_of, rule_of, side_of};
 ghost use Rattle.std.specs.Prelude.{◌≡◌, ℕ, map, Decides};
 
-use grammar::{Grammar, Occurrence, Production, Rule, Side};
+use grammar::{Occurrence, Rule, Scope, Side};
 
-pub(super) fn is_ruled(g: &Grammar, p: &Production) -> bool
-    ensures { Decides result (Ruled (grammar_of g.now) (production_of p.now)) }
+pub(super) fn is_ruled(scope: &Scope<'_>) -> bool
+    ensures { Decides result (Ruled (scheme_in scope.now) (production_in scope.now)) }
 {
-    for position in 0..=p.children.len() {
-        if !is_ruled_at(g, p, position) {
-            return false;
-        }
-    }
-    true
+    (0..=scope.production.children.len()).all(|position| is_ruled_at(scope, position))
 }
 
 // Each defined occurrence at the position has exactly one rule.
-fn is_ruled_at(g: &Grammar, p: &Production, position: usize) -> bool
-    ensures { Decides result ((a : ℕ) → RuledOnce (grammar_of g.now) (production_of p.now) (record { position = position; attribute = a })) }
+fn is_ruled_at(scope: &Scope<'_>, position: usize) -> bool
+    ensures { Decides result ((a : ℕ) → RuledOnce (scheme_in scope.now) (production_in scope.now) (record { position = position; attribute = a })) }
 {
-    for attribute in 0..g.attributes.len() {
+    (0..scope.grammar.attributes.len()).all(|attribute| {
         let o = Occurrence {
             position,
             attribute,
         };
-        if !is_ruled_once(g, p, o) {
-            return false;
-        }
-    }
-    true
+        is_ruled_once(scope, o)
+    })
 }
 
 // The occurrence has exactly one rule, if it is a defined one.
-fn is_ruled_once(g: &Grammar, p: &Production, o: Occurrence) -> bool
-    ensures { Decides result (RuledOnce (grammar_of g.now) (production_of p.now) (occurrence_of o)) }
+fn is_ruled_once(scope: &Scope<'_>, o: Occurrence) -> bool
+    ensures { Decides result (RuledOnce (scheme_in scope.now) (production_in scope.now) (occurrence_of o)) }
 {
-    !is_defined(g, p, o) | (rules_for(&p.rules, o) == 1)
+    !is_defined(scope, o) | (rules_for(&scope.production.rules, o) == 1)
 }
 
 // How many rules have the occurrence as their target.
 fn rules_for(rules: &[Rule], o: Occurrence) -> usize
     ensures { result ≡ count (λ q. same_occurrence (occurrence_of o) q.target) (map rule_of rules.now) }
 {
-    let mut n = 0;
-    for rule in rules {
-        n += usize::from(o.same_as(rule.target));
-    }
-    n
+    rules.iter().filter(|rule| o == rule.target).count()
 }
 
 // The attribute is one of the symbol at the position, on the side that is defined there.
-fn is_defined(g: &Grammar, p: &Production, o: Occurrence) -> bool
-    ensures { Decides result (Defined (grammar_of g.now) (production_of p.now) (occurrence_of o)) }
+fn is_defined(scope: &Scope<'_>, o: Occurrence) -> bool
+    ensures { Decides result (Defined (scheme_in scope.now) (production_in scope.now) (occurrence_of o)) }
 {
-    match p.symbol_at(o.position) {
-        None => false,
-        Some(symbol) => match g.attribute(o.attribute) {
-            None => false,
-            Some(a) => (a.symbol == symbol) & is_side_defined(a.side, o.position),
-        },
-    }
+    scope
+        .attribute_at(o)
+        .is_some_and(|a| a.side == side_defined(o.position))
 }
 
 // Synthesized at the left symbol, inherited at a child.
-fn is_side_defined(side: Side, position: usize) -> bool
-    ensures { Decides result (side_of side ≡ side_defined position) }
+fn side_defined(position: usize) -> Side
+    ensures { side_of result ≡ side_defined position }
 {
-    match side {
-        Side::Inherited => position > 0,
-        Side::Synthesized => position == 0,
+    if position == 0 {
+        Side::Synthesized
+    } else {
+        Side::Inherited
     }
 }

@@ -22,13 +22,11 @@ const MOST_BYTES: usize = 4 * MOST_WORDS;
 fn words_of(heap: Global, bytes: &[u8]) -> Result<Vec<u32>, AllocError>
     ensures { IfOk result (λ v. v.items ≡ from_bytes bytes.now) }
 {
-    let mut words = Vec::new(heap);
-    let mut rest = bytes;
-    while let [a, b, c, d, more @ ..] = rest {
-        words.push(u32::from_be_bytes([*a, *b, *c, *d]))?;
-        rest = more;
-    }
-    Ok(words)
+    let (words, _) = bytes.as_chunks::<4>();
+    words
+        .iter()
+        .map(|word| u32::from_be_bytes(*word))
+        .collect(heap)
 }
 
 impl Scheme {

@@ -1,36 +1,45 @@
-use Rattle.std.proofs.Common.{◌≡◌, Bool, false, List, map, length, replicate, vec_items, sym, ap, ◌∙◌, subst, rules}
-use Rattle.std.proofs.lemmas.List.{length-map, length-replicate}
-use Rattle.std.proofs.lemmas.Result.{IfOk-weaker}
-use Rattle.model.specs.Plan.{Planned}
-use Rattle.model.specs.Formed.{Formed, Limited}
-use Rattle.model.specs.Scheme.{Scheme}
-use Rattle.model.specs.Tables.{all_sections}
-use Rattle.grammar.specs.Views.{attribute_of, grammar_of}
+use Rattle.std.proofs.Common.{◌≡◌, List, map, length, vec_items, sym, ap, ◌∙◌, arith}
+use mathlib.Core.Option.{some}
+use lib.ListN.{get_elem?}
+use Rattle.std.proofs.lemmas.List.{length-map}
+use Rattle.model.specs.Plan.{Lettered}
+use Rattle.model.specs.Scheme as Model
+use Rattle.grammar.specs.Views.{attribute_of}
+use Rattle.grammar.specs.declared.parts.Attribute.{Attribute}
 use Rattle.scheme.specs.Whole.{scheme_of}
-use Rattle.lives.specs.Whole.{Compiled}
-use Rattle.plan.specs.Lettering.{Clear, Lettering}
+use Rattle.scheme.specs.declared.scheme.Scheme.{Scheme}
 use Rattle.plan.specs.Views.{letter_of}
-use Rattle.plan.proofs.Lettering.{clear_flags, planned_by}
+use Rattle.plan.proofs.AtPlaces.{at-has}
+use Rattle.plan.proofs.Lettering.{lettering_more, planned_by}
 use Rattle.plan.proofs.letters.letters_of.Goals as goal
 
-pub all_letters-requires : goal.all_letters-requires
-all_letters-requires c =
-    let same : scheme_of c.args.scheme.now ≡ grammar_of c.grammar-g.result.now = sym c.grammar-g.ensures.value in
-    let flags : c.deref_mut.result.now ≡ replicate c.len.result false = c.deref_mut.ensures.value ∙ c.in_ok-flags.ensures.items_if_clones_equal (λ y h. h) in
-    record {
-      formed = subst Formed same c.grammar-g.ensures.formed;
-      limited = subst Limited same c.grammar-g.ensures.limited;
-      compiled = subst (λ (s : Scheme). Compiled s c.in_ok-lives.lives) same c.in_ok-lives.ensures;
-      clear = subst (λ (ms : List Bool). Clear ms) (sym flags) (clear_flags c.len.result);
-      long = ap (λ (ms : List Bool). length ms) flags ∙ length-replicate c.len.result false ∙ search rules;
-      sectioned = c.requires ∙ ap all_sections same;
-    }
+pub figure-figure-requires : goal.figure-figure-requires
+figure-figure-requires c =
+    let s = scheme_of c.args.figures.now.scheme.now in
+    let n = c.loop-number.number in
+    let bs = c.deref-attribute-items.result.now in
+    let is : map attribute_of bs ≡ s.attributes = ap (map attribute_of) c.deref-attribute-items.ensures.value ∙ ap (λ (t : Model.Scheme). t.attributes) c.grammar.ensures.value in
+    ap (λ (qs : List Model.Attribute). get_elem? qs n) (sym is) ∙ at-has attribute_of bs n _ c.loop-number-test.true
+
+pub letter_of-requires-clause-known : goal.letter_of-requires-clause-known
+letter_of-requires-clause-known c =
+    let s = scheme_of c.args.figures.now.scheme.now in
+    let n = c.loop-number.number in
+    let bs = c.deref-attribute-items.result.now in
+    let is : map attribute_of bs ≡ s.attributes = ap (map attribute_of) c.deref-attribute-items.ensures.value ∙ ap (λ (t : Model.Scheme). t.attributes) c.grammar.ensures.value in
+    let f = c.figure-figure.result in
+    ap (λ (t : Scheme). get_elem? (scheme_of t).attributes f.number) c.loop-number.invariant.0 ∙ ap (get_elem? s.attributes) c.figure-figure.ensures.numbered
+    ∙ ap (λ (qs : List Model.Attribute). get_elem? qs n) (sym is) ∙ at-has attribute_of bs n _ c.loop-number-test.true ∙ ap (λ (b : Attribute). some (attribute_of b)) (sym c.figure-figure.ensures.attributed)
+
+pub loop-number-preserved : goal.loop-number-preserved
+loop-number-preserved c =
+    let s = scheme_of c.args.figures.now.scheme.now in
+    let here : Lettered s c.loop-number.number (letter_of c.in_ok-letter_of.field-0) = rw (← c.loop-number.invariant.0, ← c.figure-figure.ensures.numbered) c.in_ok-letter_of.ensures.lettered in
+    (c.letter_of.ensures.same ∙ c.loop-number.invariant.0, lettering_more s c.loop-number.number (vec_items c.loop-number.letters) (vec_items c.push.new.self) c.in_ok-letter_of.field-0 c.in_ok-push.ensures.items here c.loop-number.invariant.1)
 
 pub returns : goal.returns
 returns c =
-    let g = c.grammar-g.result.now in
-    let n = length (vec_items g.attributes) in
-    let same : grammar_of g ≡ scheme_of c.args.scheme.now = c.grammar-g.ensures.value in
-    IfOk-weaker c.all_letters.result (λ v. Lettering (grammar_of g) n (vec_items v)) (λ v. Planned (scheme_of c.args.scheme.now) (map letter_of (vec_items v)))
-    (λ v h. subst (λ (s : Scheme). Planned s (map letter_of (vec_items v))) same (planned_by (grammar_of g) n (vec_items v) (sym (length-map (vec_items g.attributes) attribute_of)) h))
-    c.all_letters.ensures
+    let s = scheme_of c.args.figures.now.scheme.now in
+    let bs = c.deref-attribute-items.result.now in
+    let is : map attribute_of bs ≡ s.attributes = ap (map attribute_of) c.deref-attribute-items.ensures.value ∙ ap (λ (t : Model.Scheme). t.attributes) c.grammar.ensures.value in
+    planned_by s c.loop-number.number (vec_items c.loop-number.letters) (omega (arith, length-map bs attribute_of, ap (λ (qs : List Model.Attribute). length qs) is)) c.loop-number.invariant.1

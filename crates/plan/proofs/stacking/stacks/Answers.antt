@@ -1,41 +1,56 @@
-use Rattle.std.proofs.Common.{true, vec_items, rules}
-use Rattle.model.specs.Spans.{stacks_in}
-use Rattle.grammar.specs.Views.{attribute_of, grammar_of, production_of}
+use Rattle.std.proofs.Common.{◌≡◌, List, map, ap, sym, ◌∙◌}
+use Rattle.std.specs.List.{list_all}
+use Rattle.std.proofs.lemmas.List.Folds.{list_all-map}
+use Rattle.model.specs.Scheme as Model
+use Rattle.model.specs.Spans.{stacks_in, stack_up}
+use Rattle.grammar.specs.Views.{attribute_of, production_of}
+use Rattle.grammar.specs.declared.parts.Production.{Production}
+use Rattle.scheme.specs.Whole.{scheme_of}
+use Rattle.plan.specs.Views.{span_of}
+use Rattle.plan.specs.declared.span.Span.{Span}
 use Rattle.plan.proofs.Along.{passed_on, passed_not, passed_all}
-use Rattle.plan.proofs.Limits.{few_steps_at, few_children_at}
-use Rattle.plan.proofs.Spanning.{stacks_by}
+use Rattle.plan.proofs.Limits.{few_steps-at, few_children-at, placed-at}
 use Rattle.plan.proofs.stacking.stacks.Goals as goal
 
-pub spans_of-requires : goal.spans_of-requires
-spans_of-requires c =
-    let p = c.index-p.result.now in
+pub invariant_of-p : goal.invariant_of-p
+invariant_of-p c =
+    let s = scheme_of c.args.scheme.now in
+    let ps = c.deref-production-items.result.now in
+    let is : map production_of ps ≡ s.productions = ap (map production_of) c.deref-production-items.ensures.value ∙ ap (λ (t : Model.Scheme). t.productions) c.grammar.ensures.value in
     record {
-      steps = few_steps_at c.args.g.now c.loop-n.n p c.requires.limited (search rules) c.index-p.ensures;
-      children = few_children_at c.args.g.now c.loop-n.n p c.requires.limited (search rules) c.index-p.ensures;
+      few_steps = few_steps-at s ps is c.loop-production.production-index c.production-item.result c.loop-production-test.true c.production-item.is c.grammar.ensures.limited;
+      few_children = few_children-at s ps is c.loop-production.production-index c.production-item.result c.loop-production-test.true c.production-item.is c.grammar.ensures.limited;
+      placed = placed-at s ps is c.loop-production.production-index c.production-item.result c.loop-production-test.true c.production-item.is c.grammar.ensures.formed c.grammar.ensures.limited;
     }
-
-pub stack_up-requires : goal.stack_up-requires
-stack_up-requires c = few_steps_at c.args.g.now c.loop-n.n c.index-p.result.now c.requires.limited (search rules) c.index-p.ensures
 
 pub returns-then-not-stack_up : goal.returns-then-not-stack_up
 returns-then-not-stack_up c =
-    let s = grammar_of c.args.g.now in
-    let a = c.args.a in
-    let b = attribute_of c.args.b in
-    let p = c.index-p.result.now in
-    let so = stacks_by s a b (production_of p) (vec_items c.in_ok-spans.spans) c.deref.result.now c.stack_up.result c.deref.ensures.value (c.in_ok-spans.ensures s c.requires.sections) c.stack_up.ensures in
-    passed_not production_of (stacks_in s a b) (vec_items c.args.g.now.productions) c.loop-n.n p c.stack_up.result (search rules) c.index-p.ensures so c.if-not-stack_up.true c.loop-n.invariant
+    let s = scheme_of c.args.scheme.now in
+    let f = c.args.figure in
+    let ps = c.deref-production-items.result.now in
+    let p = production_of c.production-item.result in
+    let test = λ (q : Production). stacks_in s f.number (attribute_of f.attribute) (production_of q) in
+    let is : map production_of ps ≡ s.productions = ap (map production_of) c.deref-production-items.ensures.value ∙ ap (λ (t : Model.Scheme). t.productions) c.grammar.ensures.value in
+    let so = ap (stack_up p) (sym (c.in_ok-spans.ensures s c.requires)) ∙ ap (λ (us : List Span). stack_up p (map span_of us)) (sym c.deref.ensures.value) ∙ sym c.stack_up.ensures ∙ c.if-not-stack_up.true in
+    passed_not test ps c.loop-production.production-index c.production-item.result c.loop-production-test.true c.production-item.is so c.loop-production.invariant
+    ∙ sym (list_all-map (stacks_in s f.number (attribute_of f.attribute)) production_of ps) ∙ ap (list_all (stacks_in s f.number (attribute_of f.attribute))) is
 
-pub loop-n-preserved : goal.loop-n-preserved
-loop-n-preserved c =
-    let s = grammar_of c.args.g.now in
-    let a = c.args.a in
-    let b = attribute_of c.args.b in
-    let p = c.index-p.result.now in
-    let so = stacks_by s a b (production_of p) (vec_items c.in_ok-spans.spans) c.deref.result.now c.stack_up.result c.deref.ensures.value (c.in_ok-spans.ensures s c.requires.sections) c.stack_up.ensures in
-    passed_on production_of (stacks_in s a b) (vec_items c.args.g.now.productions) c.loop-n.n p c.stack_up.result (search rules) c.index-p.ensures so c.if-not-stack_up.false c.loop-n.invariant
+pub loop-production-preserved : goal.loop-production-preserved
+loop-production-preserved c =
+    let s = scheme_of c.args.scheme.now in
+    let f = c.args.figure in
+    let ps = c.deref-production-items.result.now in
+    let p = production_of c.production-item.result in
+    let test = λ (q : Production). stacks_in s f.number (attribute_of f.attribute) (production_of q) in
+    let so = ap (stack_up p) (sym (c.in_ok-spans.ensures s c.requires)) ∙ ap (λ (us : List Span). stack_up p (map span_of us)) (sym c.deref.ensures.value) ∙ sym c.stack_up.ensures ∙ c.if-not-stack_up.false in
+    passed_on test ps c.loop-production.production-index c.production-item.result c.loop-production-test.true c.production-item.is so c.loop-production.invariant
 
 pub returns : goal.returns
 returns c =
-    let s = grammar_of c.args.g.now in
-    passed_all production_of (stacks_in s c.args.a (attribute_of c.args.b)) (vec_items c.args.g.now.productions) c.loop-n.n true (search rules) c.loop-n.invariant
+    let s = scheme_of c.args.scheme.now in
+    let f = c.args.figure in
+    let ps = c.deref-production-items.result.now in
+    let test = λ (q : Production). stacks_in s f.number (attribute_of f.attribute) (production_of q) in
+    let is : map production_of ps ≡ s.productions = ap (map production_of) c.deref-production-items.ensures.value ∙ ap (λ (t : Model.Scheme). t.productions) c.grammar.ensures.value in
+    passed_all test ps c.loop-production.production-index c.loop-production-test.false c.loop-production.invariant
+    ∙ sym (list_all-map (stacks_in s f.number (attribute_of f.attribute)) production_of ps) ∙ ap (list_all (stacks_in s f.number (attribute_of f.attribute))) is

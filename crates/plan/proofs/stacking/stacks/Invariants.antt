@@ -1,8 +1,8 @@
-use Rattle.std.proofs.Common.{true, vec_items}
 use Rattle.model.specs.Spans.{stacks_in}
-use Rattle.grammar.specs.Views.{attribute_of, grammar_of, production_of}
+use Rattle.grammar.specs.Views.{attribute_of, production_of}
+use Rattle.scheme.specs.Whole.{scheme_of}
 use Rattle.plan.proofs.Along.{Passed}
 use Rattle.plan.proofs.stacking.stacks.Given as goal
 
-abbrev pub invariant-loop-n : goal.invariant-loop-n
-invariant-loop-n l = Passed production_of (stacks_in (grammar_of l.g) l.a (attribute_of l.b)) (vec_items l.g.productions) l.n true
+abbrev pub invariant-loop-production : goal.invariant-loop-production
+invariant-loop-production l = Passed (λ p. stacks_in (scheme_of l.scheme) l.figure.number (attribute_of l.figure.attribute) (production_of p)) l.production-items l.production-index

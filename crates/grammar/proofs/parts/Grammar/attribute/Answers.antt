@@ -1,10 +1,6 @@
-use Rattle.std.proofs.Common.{vec_items, rules}
+use Rattle.grammar.proofs.Seen.{get_copied}
 use Rattle.grammar.specs.Views.{attribute_of}
-use Rattle.grammar.proofs.Lookups.{at_read, at_past}
 use Rattle.grammar.proofs.parts.Grammar.attribute.Goals as goal
 
-pub returns-then-number-len : goal.returns-then-number-len
-returns-then-number-len c = at_read attribute_of (vec_items c.args.self.now.attributes) c.args.number c.index.result.now (search rules) (search rules)
-
-pub returns-else-number-len : goal.returns-else-number-len
-returns-else-number-len c = at_past attribute_of (vec_items c.args.self.now.attributes) c.args.number (search rules)
+pub returns : goal.returns
+returns c = get_copied attribute_of c.deref.result.now c.args.self.now.attributes.items c.args.number c.get.result c.copied.result c.copied.ensures c.get.ensures.lookup.3 c.deref.ensures.value

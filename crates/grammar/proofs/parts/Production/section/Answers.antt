@@ -1,23 +1,16 @@
-use Rattle.std.proofs.Common.{◌≡◌, List, map, take, vec_items, sym, ap, ◌∙◌, arith, rules}
-use mir.Val.{bool_byte}
-use Rattle.std.proofs.lemmas.List.{take-map}
+use Rattle.std.proofs.Common.{◌≡◌, take, map, rules, arith}
 use Rattle.model.specs.Lists.{count}
 use Rattle.model.specs.Sequences.{is_leave}
 use Rattle.grammar.specs.Views.{step_of}
-use Rattle.grammar.specs.declared.parts.Step.{Step}
-use Rattle.grammar.proofs.Counts.{counted_more, take_within}
+use Rattle.std.proofs.lemmas.List.{take-map}
+use Rattle.std.proofs.lemmas.List.Sums.{length-filter}
+use Rattle.std.proofs.lemmas.Iterator.{YieldsList-from_slice, YieldsList-from_take}
+use Rattle.std.proofs.lemmas.Iterator.Consumers.{count_from_yields_List, YieldsList-from_filter}
+use Rattle.model.proofs.Common.Seen.{count-map}
 use Rattle.grammar.proofs.parts.Production.section.Goals as goal
-
-pub loop-i-preserved : goal.loop-i-preserved
-loop-i-preserved c =
-    let x = c.index.result.now in
-    let e = c.from-leaves.ensures ∙ ap bool_byte (c.is_leave.ensures ∙ ap (λ (z : Step). is_leave (step_of z)) c.index.ensures) in
-    counted_more step_of is_leave (vec_items c.args.self.now.steps) c.loop-i.i x c.loop-i.leaves c.from-leaves.result (search rules) e c.loop-i.invariant
 
 pub returns : goal.returns
 returns c =
-    let xs = vec_items c.args.self.now.steps in
-    let all : c.loop-i.i ≡ c.min-i-end.result = omega arith in
-    let same = take_within xs c.args.t c.len.result c.loop-i.i (search rules) (all ∙ c.min-i-end.ensures) in
-    let n : c.loop-i.leaves ≡ count is_leave (take c.args.t (map step_of xs)) = c.loop-i.invariant.1 ∙ ap (λ (ys : List Step). count is_leave (map step_of ys)) same ∙ ap (count is_leave) (sym (take-map step_of c.args.t xs)) in
+    let leaves : c.count.result ≡ count is_leave (take c.args.t (map step_of c.args.self.now.steps.items)) =
+    rw (take-map, count-map, ← length-filter) (count_from_yields_List c.filter.result _ c.count.ensures.ran (YieldsList-from_filter _ (λ s. is_leave (step_of s)) (YieldsList-from_take c.args.t (YieldsList-from_slice c.args.self.now.steps.items cc) cc) c.filter.ensures.closure (λ x b q k. search rules))) in
     omega arith

@@ -1,14 +1,10 @@
-use Rattle.std.proofs.Common.{◌-◌, vec_items, ◌∙◌, arith, rules}
+use Rattle.std.proofs.Common.{◌≡◌, suc, ◌∙◌, ap, arith}
+use Rattle.model.specs.Scheme.{symbol_at}
 use Rattle.grammar.specs.Views.{production_of}
-use Rattle.grammar.proofs.Lookups.{in_read, in_past, child_at}
+use Rattle.grammar.proofs.Seen.{get_number}
 use Rattle.grammar.proofs.parts.Production.symbol_at.Goals as goal
 
-pub returns-then-position-len : goal.returns-then-position-len
-returns-then-position-len c =
-    let p = c.args.self.now in
-    in_read (vec_items p.children) (c.args.position - 1) c.index.result.now (search rules) (search rules) ∙ child_at (production_of p) c.args.position (omega arith)
-
-pub returns-else-position-len : goal.returns-else-position-len
-returns-else-position-len c =
-    let p = c.args.self.now in
-    in_past (vec_items p.children) (c.args.position - 1) (search rules) ∙ child_at (production_of p) c.args.position (omega arith)
+pub returns-in-Some : goal.returns-in-Some
+returns-in-Some c =
+    let e : suc c.in-Some.k ≡ c.args.position = omega arith in
+    get_number c.deref.result.now c.args.self.now.children.items c.in-Some.k c.get.result c.copied.result c.copied.ensures c.get.ensures.lookup.3 c.deref.ensures.value ∙ ap (symbol_at (production_of c.args.self.now)) e

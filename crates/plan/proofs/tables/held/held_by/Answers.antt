@@ -1,37 +1,45 @@
-use Rattle.std.proofs.Common.{◌<◌, map, length, get_or, vec_items, arith, rules}
-use Rattle.std.proofs.lemmas.List.{get_or_default}
-use Rattle.grammar.specs.Views.{attribute_of, grammar_of, production_of}
-use Rattle.plan.specs.Views.{letter_of, sections_of, stack_span_of}
-use Rattle.plan.specs.declared.letter.Letter.{Letter}
-use Rattle.plan.specs.declared.letter.Letter.TheVariants.{Single}
-use Rattle.plan.specs.declared.span.Sections.{Sections}
-use Rattle.plan.proofs.Held.{section-read, sections_many, holding_more, holding_all}
+use Rattle.std.proofs.Common.{◌≡◌, ℕ, map, length, vec_items, sym, ap, ◌∙◌, arith, rules}
+use lib.ListN.{get_elem?}
+use Rattle.std.proofs.lemmas.List.{length-append, length-map}
+use Rattle.model.specs.Lists.{Has}
+use Rattle.model.specs.Scheme.{Attribute, Scheme}
+use Rattle.grammar.specs.Views.{attribute_of, grammar_of}
+use Rattle.grammar.specs.declared.parts.Grammar.{Grammar}
+use Rattle.scheme.specs.Whole.{scheme_of}
+use Rattle.plan.specs.Views.{bounded_of, letter_of}
+use Rattle.plan.proofs.Held.{holding_more, holding_all}
+use Rattle.plan.proofs.Zipped.{turn_at, all_turned}
 use Rattle.plan.proofs.tables.held.held_by.Goals as goal
 
-pub bounds-sections-a : goal.bounds-sections-a
-bounds-sections-a c =
-    let g = c.args.g.now in
-    let many = sections_many sections_of attribute_of (grammar_of g) c.args.sections.now (vec_items g.attributes) c.requires.sectioned in
-    search rules
+-- the attribute of a grammar is that of its scheme
+known : (g : Grammar) (s : Scheme) (i : ℕ) (b : Attribute) → grammar_of g ≡ s → Has (map attribute_of (vec_items g.attributes)) i b → Has s.attributes i b
+known g s i b e h = ap (λ (z : Scheme). get_elem? z.attributes i) (sym e) ∙ h
 
-pub loop-a-preserved : goal.loop-a-preserved
-loop-a-preserved c =
-    let g = c.args.g.now in
-    let s = grammar_of g in
-    let ys = vec_items g.attributes in
-    let xs = c.args.letters.now in
-    let ws = c.args.sections.now in
-    let a = c.loop-a.a in
-    let many = sections_many sections_of attribute_of s ws ys c.requires.sectioned in
-    let below : a < length ys = search rules in
-    let w : Sections = get_or ws a (record { first = record { 0 = 0 }; last = record { 0 = 0 } }) in
-    let x : Letter = get_or xs a Single in
-    let wide : a < length ws = omega arith in
-    let read = section-read sections_of attribute_of s ws ys a w c.index.result.now c.requires.sectioned wide (get_or_default ws a _ w wide) below (search rules) in
-    let long : a < length xs = search rules in
-    holding_more letter_of attribute_of s (production_of c.args.p.now) xs ys a x c.index.result.now (map stack_span_of (vec_items c.loop-a.held)) (map stack_span_of (vec_items c.add_attribute.new.held)) long (get_or_default xs a _ x long) below (search rules) (c.in_ok-add_attribute.ensures s read) c.loop-a.invariant
+many : (g : Grammar) (s : Scheme) → grammar_of g ≡ s → length s.attributes ≡ length (vec_items g.attributes)
+many g s e = ap (λ (z : Scheme). length z.attributes) (sym e) ∙ length-map (vec_items g.attributes) attribute_of
+
+pub figure-figure-requires : goal.figure-figure-requires
+figure-figure-requires c =
+    let g = c.grammar.result.now in
+    let s = scheme_of c.args.figures.now.scheme.now in
+    let h = turn_at attribute_of letter_of (vec_items g.attributes) c.args.letters.now c.into_iter-number-iterator.result c.loop-number.number-iterator c.next.new.self (search rules) (search rules) (search rules) c.loop-number.yielded c.loop-number.yielded_by c.next.result c.next.ensures.steps _ c.in-Some.is in
+    ap (λ (i : ℕ). get_elem? s.attributes i) h.number ∙ known g s _ _ c.grammar.ensures.value h.first
+
+pub loop-number-preserved : goal.loop-number-preserved
+loop-number-preserved c =
+    let g = c.grammar.result.now in
+    let s = scheme_of c.args.figures.now.scheme.now in
+    let h = turn_at attribute_of letter_of (vec_items g.attributes) c.args.letters.now c.into_iter-number-iterator.result c.loop-number.number-iterator c.next.new.self (search rules) (search rules) (search rules) c.loop-number.yielded c.loop-number.yielded_by c.next.result c.next.ensures.steps _ c.in-Some.is in
+    rw length-append
+    (holding_more s (bounded_of c.args.bounded.now) (map letter_of c.args.letters.now) (length c.loop-number.yielded) c.figure-figure.result.number (attribute_of c.in-Some.attribute.now) (attribute_of c.figure-figure.result.attribute) (letter_of c.in-Some.letter.now) _ _
+    (known g s _ _ c.grammar.ensures.value h.first) h.second (c.figure-figure.ensures.numbered ∙ h.number) (ap attribute_of c.figure-figure.ensures.attributed) (c.in_ok-add_figure.ensures s c.figure-figure.ensures.sectioned) c.loop-number.invariant)
 
 pub returns : goal.returns
 returns c =
-    let g = c.args.g.now in
-    holding_all letter_of attribute_of (grammar_of g) (production_of c.args.p.now) c.args.letters.now (vec_items g.attributes) c.loop-a.a (map stack_span_of (vec_items c.loop-a.held)) (search rules) c.loop-a.invariant
+    let g = c.grammar.result.now in
+    let s = scheme_of c.args.figures.now.scheme.now in
+    let letters = c.args.letters.now in
+    let all = all_turned attribute_of letter_of (vec_items g.attributes) letters c.into_iter-number-iterator.result c.loop-number.number-iterator c.next.new.self (search rules) (search rules) (search rules) c.loop-number.yielded c.loop-number.yielded_by c.next.result c.next.ensures.steps c.in-None.is in
+    let attributes = many g s c.grammar.ensures.value in
+    let lettered = length-map letters letter_of in
+    holding_all s (bounded_of c.args.bounded.now) (map letter_of letters) (length c.loop-number.yielded) _ (omega arith) c.loop-number.invariant

@@ -1,26 +1,19 @@
-use Rattle.std.proofs.Common.{List, map, vec_items, sym, ap, ◌∙◌, rules}
-use Rattle.std.proofs.lemmas.List.{take_all}
-use Rattle.model.specs.Tables.{production_table}
-use Rattle.grammar.specs.Views.{grammar_of, production_of}
-use Rattle.grammar.specs.declared.parts.Production.{Production}
-use Rattle.grammar.proofs.Lookups.{at_read}
-use Rattle.plan.specs.Views.{letter_of, production_table_of}
-use Rattle.plan.proofs.Rows.{stands_on}
-use Rattle.plan.proofs.Smalls.{small}
+use Rattle.std.proofs.Common.{◌≡◌, map, ap, ◌∙◌}
+use Rattle.model.specs.Scheme as Model
+use Rattle.grammar.specs.Views.{production_of}
+use Rattle.scheme.specs.Whole.{scheme_of}
+use Rattle.plan.proofs.Limits.{few_steps-at, few_children-at, placed-at}
 use Rattle.plan.proofs.tables.production.tabulate.Goals as goal
 
-pub production_table-requires : goal.production_table-requires
-production_table-requires c =
-    let g = c.args.g.now in
-    let h = small (grammar_of g) c.requires.formed c.requires.limited c.loop-n.n (production_of c.index.result.now) (sym (at_read production_of (vec_items g.productions) c.loop-n.n c.index.result.now (search rules) (search rules))) in
-    search rules
-
-pub loop-n-preserved : goal.loop-n-preserved
-loop-n-preserved c =
-    let a = c.args in
-    stands_on production_table_of production_of (production_table (grammar_of a.g.now) (map letter_of a.letters.now)) (vec_items a.g.now.productions) c.loop-n.n c.index.result.now (vec_items c.loop-n.tables) (vec_items c.push.new.self) c.in_ok-production_table.field-0 (search rules) (search rules) c.in_ok-push.ensures.items c.in_ok-production_table.ensures c.loop-n.invariant
-
-pub returns : goal.returns
-returns c =
-    let a = c.args in
-    c.loop-n.invariant ∙ ap (λ (ps : List Production). map (production_table (grammar_of a.g.now) (map letter_of a.letters.now)) (map production_of ps)) (take_all c.loop-n.n (vec_items a.g.now.productions) (search rules))
+pub invariant_of-bounded : goal.invariant_of-bounded
+invariant_of-bounded c =
+    let s = scheme_of c.args.figures.now.scheme.now in
+    let ps = c.deref-production-items.result.now in
+    let p = c.production-item in
+    let i = c.loop-production.production-index in
+    let is : map production_of ps ≡ s.productions = ap (map production_of) c.deref-production-items.ensures.value ∙ ap (λ (t : Model.Scheme). t.productions) c.grammar.ensures.value in
+    record {
+      few_steps = few_steps-at s ps is i p.result c.loop-production-test.true p.is c.grammar.ensures.limited;
+      few_children = few_children-at s ps is i p.result c.loop-production-test.true p.is c.grammar.ensures.limited;
+      placed = placed-at s ps is i p.result c.loop-production-test.true p.is c.grammar.ensures.formed c.grammar.ensures.limited;
+    }

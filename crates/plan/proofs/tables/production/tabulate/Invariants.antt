@@ -1,8 +1,9 @@
 use Rattle.std.proofs.Common.{◌≡◌, map, take, vec_items}
 use Rattle.model.specs.Tables as Tables
-use Rattle.grammar.specs.Views.{grammar_of, production_of}
+use Rattle.grammar.specs.Views.{production_of}
+use Rattle.scheme.specs.Whole.{scheme_of}
 use Rattle.plan.specs.Views.{letter_of, production_table_of}
 use Rattle.plan.proofs.tables.production.tabulate.Given as goal
 
-abbrev pub invariant-loop-n : goal.invariant-loop-n
-invariant-loop-n l = map production_table_of (vec_items l.tables) ≡ map (Tables.production_table (grammar_of l.g) (map letter_of l.letters)) (map production_of (take l.n (vec_items l.g.productions)))
+abbrev pub invariant-loop-production : goal.invariant-loop-production
+invariant-loop-production l = map production_table_of (vec_items l.tables) ≡ map (Tables.production_table (scheme_of l.figures.scheme.now) (map letter_of l.letters)) (map production_of (take l.production-index l.production-items))

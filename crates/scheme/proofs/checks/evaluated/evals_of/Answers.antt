@@ -1,13 +1,11 @@
-use Rattle.std.proofs.Common.{Bool, ap, ◌∙◌}
-use mir.Val.{bool_byte}
+use Rattle.std.proofs.Common.{rules}
+use Rattle.std.proofs.lemmas.List.Sums.{length-filter}
+use Rattle.std.proofs.lemmas.Iterator.{YieldsList-from_slice}
+use Rattle.std.proofs.lemmas.Iterator.Consumers.{count_from_yields_List, YieldsList-from_filter}
 use Rattle.model.specs.Lawful.{is_eval_of}
+use Rattle.model.proofs.Common.Seen.{count-map}
 use Rattle.grammar.specs.Views.{step_of}
-use Rattle.grammar.specs.declared.parts.Step.TheVariants.{Eval}
-use Rattle.grammar.proofs.Counts.{counted_more, counted_all}
 use Rattle.scheme.proofs.checks.evaluated.evals_of.Goals as goal
 
-pub loop-step-preserved : goal.loop-step-preserved
-loop-step-preserved c = counted_more step_of (is_eval_of c.args.rule) c.args.steps.now c.loop-step.step-index (Eval 0) c.loop-step.n c.from-n.result c.loop-step-test.true (c.from-n.ensures ∙ ap (λ (b : Bool). bool_byte b) c.is_eval_of.ensures) c.loop-step.invariant
-
 pub returns : goal.returns
-returns c = counted_all step_of (is_eval_of c.args.rule) c.args.steps.now c.loop-step.step-index c.loop-step.n c.loop-step-test.false c.loop-step.invariant
+returns c = rw (count-map, ← length-filter) (count_from_yields_List c.filter.result _ c.count.ensures.ran (YieldsList-from_filter _ (λ s. is_eval_of c.args.rule (step_of s)) (YieldsList-from_slice c.args.steps.now cc) c.filter.ensures.closure (λ x b q k. search rules)))

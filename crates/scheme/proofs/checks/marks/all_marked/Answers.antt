@@ -1,15 +1,13 @@
-use Rattle.std.proofs.Common.{refl}
-use Rattle.scheme.proofs.Marks.{placed_at, below_none, below_decided, all_decided}
+use Rattle.std.proofs.Common.{◌≡◌, ◌<◌, true, length, rules}
+use Rattle.std.proofs.lemmas.Iterator.{YieldsList-from_slice}
+use Rattle.std.proofs.lemmas.Iterator.Adapters.{serves_from_places}
+use Rattle.scheme.specs.Marks.{marked}
+use Rattle.scheme.proofs.Chains.{decides_each}
+use Rattle.scheme.proofs.Marks.{placed_here}
 use Rattle.scheme.proofs.checks.marks.all_marked.Goals as goal
 
-pub bounds-marks-x : goal.bounds-marks-x
-bounds-marks-x c = placed_at c.args.marks.now c.args.symbols.now c.loop-x.x-index c.requires c.loop-x-test.true
-
-pub loop-x-init : goal.loop-x-init
-loop-x-init c = ((λ _. below_none c.args.marks.now c.args.symbols.now), λ _. refl)
-
-pub loop-x-preserved : goal.loop-x-preserved
-loop-x-preserved c = below_decided c.args.marks.now c.args.symbols.now c.loop-x.x-index c.loop-x.all c.loop-x-test.true c.loop-x.invariant
+pub all-requires-clause-callable : goal.all-requires-clause-callable
+all-requires-clause-callable c = serves_from_places (YieldsList-from_slice c.args.symbols.now cc) (λ x q k. search rules) (λ x k l e. let h : x.now < length c.args.marks.now = placed_here c.args.marks.now c.args.symbols.now k x.now c.requires l e in search rules)
 
 pub returns : goal.returns
-returns c = all_decided c.args.marks.now c.args.symbols.now c.loop-x.x-index c.loop-x.all c.loop-x-test.false c.loop-x.invariant
+returns c = decides_each (λ x. marked c.args.marks.now x ≡ true) _ _ _ c.all.ensures.ran (YieldsList-from_slice c.args.symbols.now cc) (λ x b q k. search rules)

@@ -1,12 +1,12 @@
-use Rattle.grammar.specs.Views.{grammar_of, production_of, occurrence_of, attribute_of}
-use Rattle.scheme.proofs.Ruling.{no_symbol, no_attribute, decides_defined}
+use Rattle.std.proofs.Common.{rules}
+use Rattle.grammar.specs.Views.{scheme_in, production_in, occurrence_of, attribute_of}
+use Rattle.scheme.proofs.Chains.{decides_some}
+use Rattle.scheme.proofs.Ruling.{defined_nowhere, defined_where}
 use Rattle.scheme.proofs.checks.ruled.is_defined.Goals as goal
 
-pub returns-in-None : goal.returns-in-None
-returns-in-None c = no_symbol (grammar_of c.args.g.now) (production_of c.args.p.now) (occurrence_of c.args.o) c.in-None.ensures
-
-pub returns-in-None-attribute : goal.returns-in-None-attribute
-returns-in-None-attribute c = no_attribute (grammar_of c.args.g.now) (production_of c.args.p.now) (occurrence_of c.args.o) c.in-None-attribute.ensures
-
-pub returns-in-Some-attribute : goal.returns-in-Some-attribute
-returns-in-Some-attribute c = decides_defined (grammar_of c.args.g.now) (production_of c.args.p.now) (occurrence_of c.args.o) c.in-Some.symbol (attribute_of c.in-Some-attribute.a) c.is_side_defined.result c.in-Some.ensures c.in-Some-attribute.ensures c.is_side_defined.ensures
+pub returns : goal.returns
+returns c =
+    let s = scheme_in c.args.scope.now in
+    let p = production_in c.args.scope.now in
+    let o = occurrence_of c.args.o in
+    decides_some attribute_of c.attribute_at.result _ c.is_some_and.result c.attribute_at.ensures c.is_some_and.ensures (defined_nowhere s p o) (λ a e k. defined_where s p o (attribute_of a) c.is_some_and.result e (search rules))

@@ -1,18 +1,17 @@
-use Rattle.std.proofs.Common.{ap, ◌∙◌}
-use mir.Val.{bool_byte}
-use Rattle.grammar.specs.Views.{step_of, visit_of, option_of}
-use Rattle.grammar.specs.declared.parts.Step.TheVariants.{Eval}
-use Rattle.scheme.proofs.Numbering.{present_is, seen_few, seen_on, seen_whole}
+use Rattle.std.proofs.Common.{◌≡◌, ◌∙◌, ap, rules}
+use Rattle.std.specs.Range.{range_inclusive_start, range_inclusive_end, range_inclusive_exhausted}
+use Rattle.std.proofs.lemmas.Bool.Decides.{Decides-eqb}
+use Rattle.std.proofs.lemmas.Iterator.{YieldsList-from_slice}
+use Rattle.std.proofs.lemmas.Iterator.Consumers.{YieldsList-from_filter_map}
+use Rattle.scheme.specs.Numbers.{number_at}
+use Rattle.grammar.specs.Views.{step_of, visit_of}
+use Rattle.scheme.proofs.Chains.{YieldsList-from_one}
+use Rattle.scheme.proofs.Comparing.{decides_eq}
+use Rattle.scheme.proofs.Numbering.{number_from, is_number_from, numbers_picked, range_from_on}
 use Rattle.scheme.proofs.checks.sequenced.rises_to.Goals as goal
 
-pub loop-step-preserved : goal.loop-step-preserved
-loop-step-preserved c =
-    let xs = c.args.steps.now in
-    let k = c.args.position in
-    let i = c.loop-step.step-index in
-    let o = option_of visit_of c.number_at-number.result in
-    let one = c.from-seen.ensures ∙ ap bool_byte (c.is_some.ensures ∙ present_is visit_of c.number_at-number.result) in
-    (seen_few c.loop-step.seen i c.from-seen.result c.is_some.result c.loop-step.invariant.0 c.from-seen.ensures, seen_on step_of k xs i (Eval 0) c.loop-step.seen c.from-seen.result c.loop-step.rising c.is_next-rising.result o c.loop-step-test.true c.number_at-number.ensures c.is_next-rising.ensures one c.loop-step.invariant.1)
-
 pub returns : goal.returns
-returns c = seen_whole step_of c.args.position c.args.steps.now c.loop-step.step-index c.loop-step.seen (visit_of c.args.last) c.from.result c.loop-step.rising c.from.ensures c.loop-step-test.false c.loop-step.invariant.1
+returns c =
+    let k = c.args.position in
+    let xs = c.args.steps.now in
+    rw (← numbers_picked step_of k xs, ← range_from_on 1 (visit_of c.args.last)) (decides_eq (λ x y. y ≡ x) c.new.result c.eq.result c.eq.ensures.ran (YieldsList-from_filter_map _ (λ st. number_from (number_at k (step_of st))) (YieldsList-from_slice xs cc) c.filter_map.ensures.closure (λ x r q h. search (rules, is_number_from))) (λ it b. YieldsList-from_one (visit_of c.args.last) it (ap range_inclusive_start b ∙ c.new.ensures.start) (ap range_inclusive_end b ∙ c.new.ensures.end) (ap range_inclusive_exhausted b ∙ c.new.ensures.exhausted)) (λ x y. Decides-eqb x y))

@@ -1,6 +1,0 @@
-// What happens to a span.
-#[derive(Clone, Copy)]
-pub enum Change {
-    Opens,
-    Closes,
-}
