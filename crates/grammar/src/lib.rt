@@ -1,4 +1,4 @@
-// What a scheme is made of, and why one is refused.
+//! What a scheme is made of, and why one is refused.
 #![tactic(auto)]
 
 mod parts;

@@ -1,5 +1,5 @@
 -- Rounds over a tape add entries to the table until it says whether lives alternate.
-use Rattle.std.proofs.Common.{◌≡◌, ℕ, ◌+◌, ◌*◌, ◌<◌, Bool, true, false, cond, not, ◌⊎◌, List, [], ◌∷◌, length, Decides, sym, refl, ap, ◌∙◌, inl, inr, arith}
+use Rattle.std.proofs.Common.{◌≡◌, ℕ, ◌*◌, ◌<◌, Bool, true, false, not, ◌⊎◌, List, [], ◌∷◌, length, Decides, sym, refl, ap, ◌∙◌, inl, inr, arith}
 use Rattle.std.proofs.lemmas.Bool.{and_parts, and_from, ltb-true, not-true, not_from_false, both_ways}
 use Rattle.model.specs.Formed.{Formed}
 use Rattle.model.specs.Lists.{every}
@@ -51,38 +51,30 @@ module _ (members : ℕ → Bool) (n : ℕ) (es : List Event) (fit : every (in_r
       progress_both w w₂ (play_three members es w) (progress_both w w₁ w₂ one two) last
 
   -- a round that changed the table leaves fewer entries false
-  pub round_less : (t u : List Bool) (b : Bool) → length t ≡ 54 * n → record { table = u; changed = b } ≡ play_three members es (record { table = t; changed = false }) → falses u + cond b 1 0 < falses t + 1
-  round_less t u b room e = less b (ap (λ (z : Filling). z.changed) (sym e))
-    where
-      w : Filling
-      w = record { table = t; changed = false }
+  pub round_less : (t u : List Bool) (b : Bool) → length t ≡ 54 * n → record { table = u; changed = b } ≡ play_three members es (record { table = t; changed = false }) → b ≡ true → falses u < falses t
+  round_less t u b room e change =
+      let w : Filling = record { table = t; changed = false } in
+      let same : falses u ≡ falses (play_three members es w).table = ap (λ (z : Filling). falses z.table) e in
+      omega (arith, (round_progress w room).falls refl (ap (λ (z : Filling). z.changed) (sym e) ∙ change), same)
 
-      same : falses u ≡ falses (play_three members es w).table
-      same = ap (λ (z : Filling). falses z.table) e
-
-      less : (b : Bool) → (play_three members es w).changed ≡ b → falses u + cond b 1 0 < falses t + 1
-      less true change = omega (arith, (round_progress w room).falls refl change, same)
-      less false still = omega (arith, (round_progress w room).no_more, same)
-
--- what the rounds keep: each entry is some walk's, and after a round that changed nothing no walk leads further
-pub record Going (s : Scheme) (members : ℕ → Bool) (t : List Bool) (changed : Bool) : Type 0 where
-  pub sound : Sound s members (at t)
-  pub closed : changed ≡ false → Closed s members (at t)
-
-pub going_on : (s : Scheme) → Formed s → (members : ℕ → Bool) (es : List Event) (t u : List Bool) (a b : Bool) → es ≡ tape s → Sized s t → Going s members t a → record { table = u; changed = b } ≡ play_three members es (record { table = t; changed = false }) → Going s members u b
-going_on s formed members es t u a b tape_is sized going e =
+-- what a round keeps: each entry is some walk's; and after a round that changed nothing no walk leads further
+pub round_kept : (s : Scheme) → Formed s → (members : ℕ → Bool) (es : List Event) (t u : List Bool) (b : Bool) → es ≡ tape s → Sized s t → Sound s members (at t) → record { table = u; changed = b } ≡ play_three members es (record { table = t; changed = false }) → Sound s members (at u) × (b ≡ false → Closed s members (at u))
+round_kept s formed members es t u b tape_is sized sound e =
     let w : Filling = record { table = t; changed = false } in
     let round = e ∙ ap (λ (fs : List Event). play_three members fs w) tape_is ∙ play_three_is s members w (grounded s formed) in
-    let next = round_turn s members formed t u b sized going.sound round in
-    record { sound = next.1; closed = next.2 }
+    let next = round_turn s members formed t u b sized sound round in
+    (next.1, next.2)
 
--- at the end: nothing changed, or the table is no longer clear
-pub going_last : (s : Scheme) (members : ℕ → Bool) (t : List Bool) (changed : Bool) → Going s members t changed → (changed ≡ false) ⊎ (clear t ≡ false) → Decides (clear t) (Alternate s members)
-going_last s members t changed going end = (
-  λ e. let parts = and_parts (not (at t 0 1 empty held)) (not (at t 0 1 empty broken)) e in clear_alternate s members (at t) (going.closed (still end e)) (not-true (at t 0 1 empty held) parts.0, not-true (at t 0 1 empty broken) parts.1),
-  λ alternate. let none-such = alternate_clear s members (at t) going.sound alternate in and_from (not (at t 0 1 empty held)) (not (at t 0 1 empty broken)) (not_from_false (at t 0 1 empty held) none-such.0) (not_from_false (at t 0 1 empty broken) none-such.1),
+-- at the end: each entry is some walk's, and either no walk leads further, or the table is no longer clear
+abbrev pub Ended : Scheme → (ℕ → Bool) → List Bool → Type 0
+Ended s members t = Sound s members (at t) × (Closed s members (at t) ⊎ (clear t ≡ false))
+
+pub decided : (s : Scheme) (members : ℕ → Bool) (t : List Bool) → Ended s members t → Decides (clear t) (Alternate s members)
+decided s members t end = (
+  λ e. let parts = and_parts (not (at t 0 1 empty held)) (not (at t 0 1 empty broken)) e in clear_alternate s members (at t) (still end.1 e) (not-true (at t 0 1 empty held) parts.0, not-true (at t 0 1 empty broken) parts.1),
+  λ alternate. let none-such = alternate_clear s members (at t) end.0 alternate in and_from (not (at t 0 1 empty held)) (not (at t 0 1 empty broken)) (not_from_false (at t 0 1 empty held) none-such.0) (not_from_false (at t 0 1 empty broken) none-such.1),
 )
   where
-    still : (changed ≡ false) ⊎ (clear t ≡ false) → clear t ≡ true → changed ≡ false
-    still (inl e) h = e
+    still : Closed s members (at t) ⊎ (clear t ≡ false) → clear t ≡ true → Closed s members (at t)
+    still (inl closed) h = closed
     still (inr e) h = absurd (both_ways (clear t) e h)

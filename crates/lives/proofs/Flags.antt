@@ -2,16 +2,17 @@
 use Rattle.std.proofs.Common.{◌≡◌, ℕ, zero, suc, ◌+◌, ◌*◌, ◌<◌, Bool, true, false, not, ◌&&◌, ◌||◌, List, [], ◌∷◌, ◌++◌, length, get_or, set, take, drop, replicate, sym, refl, ap, ◌∙◌, append_assoc, arith}
 use Rattle.std.specs.List.{flat_map}
 use Rattle.std.proofs.lemmas.List.{length-append, length-set, get_or-append-add, get_or_default, replicate-append-replicate}
-use Rattle.std.proofs.Math.Bool.{beq, or-false, or-true}
+use Rattle.std.proofs.Math.Bool.{beq, or-false, or-true, or_assoc}
 use Rattle.std.proofs.Math.Nat.{zero-add, suc-add, mul-suc}
 use Rattle.model.specs.Loose as Loose
 use Rattle.model.specs.Loose.{empty, held, broken}
 use Rattle.model.specs.Outcomes as Outcomes
-use Rattle.model.specs.Outcomes.{code, place, at, has, put, put_all, Filling}
+use Rattle.model.specs.Outcomes.{code, place, at, has, over, put, put_all, Filling}
 use Rattle.model.proofs.Plan.Table.{at_in, code_below}
 use Rattle.lives.specs.declared.cells.Cells.{Cells}
 use Rattle.lives.specs.declared.table.Section.{Section}
 use Rattle.lives.specs.declared.table.Sections.{Sections}
+use Rattle.lives.specs.Playing.{clear}
 use Rattle.lives.specs.Views.{cells_of, cell_flags, section_flags, symbol_flags}
 
 -- in the flags, those of one set of cells stand from place k on, and with another set there the others stay
@@ -167,3 +168,21 @@ module _ (t : List Sections) (x i : ℕ) (c : Loose.Cell) (s : Sections) (w : Se
       ∙ put_all_between x i c hi p.pre p.post (place_is p.pre p.long) r.empty r.held r.broken to changed
       ∙ entered p.pre p.post r q to changed all
       ∙ ap (λ (fs : List Bool). record { table = fs; changed = changed || not (beq q.empty r.empty && (beq q.held r.held && beq q.broken r.broken)) }) (sym p.next)
+
+-- no cell but the empty one comes from the empty cell, by the first section of symbol 0
+pub clear_at : (t : List Sections) (s : Sections) (w : Section) (k : ℕ) (d : Cells) → 0 < length t → s ≡ get_or t 0 s → w ≡ get_or s.sections 1 w → k ≡ 0
+    → clear (flat_map symbol_flags t) ≡ (not (get_or (get_or s.sections 1 w).reached k d).held && not (get_or (get_or s.sections 1 w).reached k d).broken)
+clear_at t s w k d present sx wi first =
+    let read = read_at t 0 1 empty s w (get_or w.reached 0 d) present (omega arith) sx wi (read_same w empty d) in
+    rw (← wi, first, read held, read broken) refl
+
+-- the cells that a walk comes to are those that it comes to from each cell of f
+pub over_each : (out : Outcomes.Outcomes) (x i : ℕ) (f p q r : Outcomes.Cells) (one two three some all : Cells) → ((d : Loose.Cell) → out x i empty d ≡ has p d) → ((d : Loose.Cell) → out x i held d ≡ has q d) → ((d : Loose.Cell) → out x i broken d ≡ has r d)
+    → cells_of one ≡ record { e = f.e && p.e; h = f.e && p.h; b = f.e && p.b } → cells_of two ≡ record { e = f.h && q.e; h = f.h && q.h; b = f.h && q.b } → cells_of three ≡ record { e = f.b && r.e; h = f.b && r.h; b = f.b && r.b }
+    → cells_of some ≡ record { e = one.empty || two.empty; h = one.held || two.held; b = one.broken || two.broken } → cells_of all ≡ record { e = some.empty || three.empty; h = some.held || three.held; b = some.broken || three.broken }
+    → cells_of all ≡ over out x i f
+over_each out x i f p q r one two three some all from_empty from_held from_broken e1 e2 e3 es ea =
+    let e = λ (z : Outcomes.Cells). z.e in
+    let h = λ (z : Outcomes.Cells). z.h in
+    let b = λ (z : Outcomes.Cells). z.b in
+    ea ∙ rw (ap e es, ap h es, ap b es, ap e e1, ap h e1, ap b e1, ap e e2, ap h e2, ap b e2, ap e e3, ap h e3, ap b e3, from_empty empty, from_empty held, from_empty broken, from_held empty, from_held held, from_held broken, from_broken empty, from_broken held, from_broken broken) (simp or_assoc)

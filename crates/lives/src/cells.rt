@@ -1,10 +1,10 @@
-// The cell that lives share, and sets of what it may hold.
+//! The cell that lives share, and sets of what it may hold.
 ghost use Rattle.model.specs.Loose.{begin, end};
 ghost use Rattle.model.specs.Outcomes.{code, only, mark};
 ghost use Rattle.lives.specs.Views.{cell_of, cells_of};
 ghost use Rattle.std.specs.Prelude.{◌≡◌, ◌&&◌, ◌||◌};
 
-// No life is in the cell, or one is, or lives have failed to alternate in it.
+/// No life is in the cell, or one is, or lives have failed to alternate in it.
 #[derive(Clone, Copy, PartialEq, Eq)]
 pub enum Cell {
     Empty,
@@ -13,7 +13,7 @@ pub enum Cell {
 }
 
 impl Cell {
-    // Its place in what stands for each of the three.
+    /// Its place in what stands for each of the three. No `From`: it is asked once, and would say no more.
     pub(crate) fn number(self) -> usize
         ensures { result ≡ code (cell_of self) }
     {
@@ -21,7 +21,7 @@ impl Cell {
     }
 }
 
-// A set of cells: a flag for each, by its name.
+/// A set of cells: a flag for each, by its name. Sets are combined flag by flag, so `|` and `&` stand here for operations of sets.
 #[derive(Clone, Copy, PartialEq, Eq)]
 pub struct Cells {
     pub empty: bool,
@@ -30,14 +30,14 @@ pub struct Cells {
 }
 
 impl Cells {
-    // The set of no cell.
+    /// The set of no cell.
     pub const NONE: Cells = Cells {
         empty: false,
         held: false,
         broken: false,
     };
 
-    // The set of one cell.
+    /// The set of one cell.
     pub(crate) fn single(cell: Cell) -> Cells
         ensures { cells_of result ≡ only (cell_of cell) }
     {
@@ -48,7 +48,7 @@ impl Cells {
         }
     }
 
-    // After a life has begun in each.
+    /// After a life has begun in each.
     pub(crate) fn begun(self) -> Cells
         ensures { cells_of result ≡ mark (cells_of self) begin }
     {
@@ -59,7 +59,7 @@ impl Cells {
         }
     }
 
-    // After a life has ended in each.
+    /// After a life has ended in each.
     pub(crate) fn ended(self) -> Cells
         ensures { cells_of result ≡ mark (cells_of self) end }
     {
@@ -70,7 +70,7 @@ impl Cells {
         }
     }
 
-    // The cells of either set.
+    /// The cells of either set.
     pub(crate) fn or(self, other: Cells) -> Cells
         ensures { cells_of result ≡ record { e = self.empty || other.empty; h = self.held || other.held; b = self.broken || other.broken } }
     {
@@ -81,10 +81,14 @@ impl Cells {
         }
     }
 
-    // Whether some cell of the set leads on, by what each cell does.
-    pub(crate) fn leads(self, from_empty: bool, from_held: bool, from_broken: bool) -> bool
-        ensures { result ≡ ((self.empty && from_empty) || ((self.held && from_held) || (self.broken && from_broken))) }
+    /// The set itself if the flag is set, and otherwise that of no cell.
+    pub(crate) fn only_if(self, flag: bool) -> Cells
+        ensures { cells_of result ≡ record { e = flag && self.empty; h = flag && self.held; b = flag && self.broken } }
     {
-        (self.empty & from_empty) | ((self.held & from_held) | (self.broken & from_broken))
+        Cells {
+            empty: flag & self.empty,
+            held: flag & self.held,
+            broken: flag & self.broken,
+        }
     }
 }

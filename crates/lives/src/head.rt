@@ -1,4 +1,4 @@
-// Where the playing of a tape has come to.
+//! Where the playing of a tape has come to.
 ghost use Rattle.model.specs.Outcomes.{only};
 ghost use Rattle.model.specs.Tape.{Machine, act};
 ghost use Rattle.lives.specs.Views.{event_of, cell_of, cells_of, member, symbols_in};
@@ -8,7 +8,7 @@ use super::cells::{Cell, Cells};
 use super::event::Event;
 use super::table::Table;
 
-// The production's left symbol, the section that it is in, and the cells that it can have come to there.
+/// The production's left symbol, the section that it is in, and the cells that it can have come to there.
 #[derive(Clone, Copy)]
 pub struct Head {
     pub left: usize,
@@ -19,7 +19,7 @@ pub struct Head {
 impl Head {
     ghost use Rattle.lives.specs.Playing.{in_range, machine_of, HasSection};
 
-    // Where a section of the left symbol starts from the cell.
+    /// Where a section of the left symbol starts from the cell.
     pub(crate) fn starting(left: usize, section: usize, from: Cell) -> Head
         ensures place { (result.left ≡ left) × (result.section ≡ section) }
         ensures cells { cells_of result.cells ≡ only (cell_of from) }
@@ -31,7 +31,7 @@ impl Head {
         }
     }
 
-    // Goes on by one event of the tape, of a start from the cell.
+    /// Goes on by one event of the tape, of a start from the cell.
     pub(crate) fn follow(&mut self, event: Event, members: &[bool], from: Cell, table: &mut Table)
         requires fits { in_range (symbols_in table.old) (event_of event) ≡ true }
         requires placed { HasSection table.old self.old.left self.old.section }

@@ -1,4 +1,4 @@
-// Lives of attributes along a scheme's productions, and whether those of some attributes alternate.
+//! Lives of attributes along a scheme's productions, and whether those of some attributes alternate.
 #![tactic(auto)]
 
 mod cells;

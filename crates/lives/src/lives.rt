@@ -1,4 +1,4 @@
-// The lives of a scheme's attributes, ready to be tried together.
+//! The lives of a scheme's attributes, ready to be tried together.
 ghost use Rattle.model.specs.Formed.{Formed};
 ghost use Rattle.model.specs.Lists.{every};
 ghost use Rattle.model.specs.Loose.{Alternate};
@@ -16,7 +16,7 @@ use super::tape::Tape;
 use scheme::Scheme;
 use std::alloc::{AllocError, Global};
 
-// The tape of a scheme, and a table of outcomes for the scheme's symbols.
+/// The tape of a scheme, and a table of outcomes for the scheme's symbols.
 #[derive(Drop)]
 pub struct Lives {
     tape: Tape,
@@ -27,31 +27,31 @@ pub struct Lives {
 impl Lives {
     ghost use Rattle.lives.specs.Whole.{Compiled, tape_of, symbols_of};
 
-    // The lives of a scheme's attributes.
-    pub fn of(heap: Global, scheme: &Scheme) -> Result<Lives, AllocError>
+    /// The lives of a scheme's attributes.
+    pub fn of(alloc: Global, scheme: &Scheme) -> Result<Lives, AllocError>
         ensures { IfOk result (λ v. Compiled (scheme_of scheme.now) v) }
     {
         let grammar = scheme.grammar();
-        let tape = Tape::of(heap, grammar)?;
-        let table = Table::new(heap, grammar.visits.len())?;
+        let tape = Tape::of(alloc, grammar)?;
+        let table = Table::new(alloc, grammar.visits.len())?;
         Ok(Lives { tape, table })
     }
 
-    // Whether the lives of all members together alternate: along every loose walk of symbol 0's first section a life begins only when there is none, and none is left at the end. Rounds fill the table until one changes nothing, or the table is no longer clear.
+    /// Whether the lives of all members together alternate: along every loose walk of symbol 0's first section a life begins only when there is none,
+    /// and none is left at the end. Rounds fill the table until one changes nothing, or the table is no longer clear.
     pub fn alternates(&mut self, members: &[bool]) -> bool
         ensures decided { (s : Model.Scheme) → Formed s → Compiled s self.old → Decides result (Alternate s (member members.now)) }
         ensures tape { tape_of self.new ≡ tape_of self.old }
         ensures symbols { symbols_of self.new ≡ symbols_of self.old }
     {
         self.table.clear();
-        while self.table.changed && self.table.is_clear() {
-            self.play_round(members);
-        }
+        while self.table.is_clear() && self.play_round(members) {}
         self.table.is_clear()
     }
 
-    // One round: the whole tape from each of the three cells. The table then tells whether the round has changed it.
-    fn play_round(&mut self, members: &[bool])
+    // One round: the whole tape from each of the three cells. Whether it has changed the table.
+    fn play_round(&mut self, members: &[bool]) -> bool
+        ensures changed { result ≡ self.new.table.changed }
         ensures played { ◌≡◌ {A = Filling} (filling_of self.new.table) (play_three (member members.now) (tape_of self.old) (record { table = flags_in self.old.table; changed = false })) }
         ensures tape { tape_of self.new ≡ tape_of self.old }
         ensures symbols { symbols_of self.new ≡ symbols_of self.old }
@@ -60,5 +60,6 @@ impl Lives {
         for from in [Cell::Empty, Cell::Held, Cell::Broken] {
             self.tape.play(members, from, &mut self.table);
         }
+        self.table.changed
     }
 }

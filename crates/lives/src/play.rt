@@ -1,4 +1,4 @@
-// Plays a tape, which fills the table of outcomes.
+//! Plays a tape, which fills the table of outcomes.
 ghost use Rattle.model.specs.Outcomes.{Filling};
 ghost use Rattle.model.specs.Lists.{every};
 ghost use Rattle.model.specs.Tape.{play, ready};
@@ -12,12 +12,13 @@ use super::table::Table;
 use super::tape::Tape;
 
 impl Tape {
-    // The whole tape, of starts from the cell.
+    /// The whole tape, of starts from the cell.
     pub(crate) fn play(&self, members: &[bool], from: Cell, table: &mut Table)
         requires { every (in_range (symbols_in table.old)) (events_in self.now) ≡ true }
         ensures played { ◌≡◌ {A = Filling} (filling_of table.new) (play (member members.now) (cell_of from) (ready (filling_of table.old)) (events_in self.now)).filling }
         ensures symbols { symbols_in table.new ≡ symbols_in table.old }
     {
+        // a tape begins with Opens, which sets the head to its production: until then it may stand anywhere
         let mut head = Head::starting(0, 0, Cell::Empty);
         for event in &self.events {
             head.follow(*event, members, from, table);

@@ -1,17 +1,17 @@
-// The tape of a scheme: the events of its productions, one production after another.
+//! The tape of a scheme: the events of its productions, one production after another.
 ghost use Rattle.model.specs.Scheme.{symbol_at};
 ghost use Rattle.model.specs.Tape as Model;
 ghost use Rattle.model.specs.Tape.{section_events, rule_events, visit_events, step_events, production_tape};
-ghost use Rattle.grammar.specs.Views.{grammar_of, production_of, rule_of, step_of, scheme_in, production_in};
-ghost use Rattle.std.specs.Prelude.{◌≡◌, suc, ◌∷◌, ◌<◌, IfOk};
-ghost use Rattle.std.proofs.Math.Option.{some};
+ghost use Rattle.grammar.specs.Views.{grammar_of, production_of, step_of, visit_of, scheme_in, production_in};
+ghost use Rattle.std.specs.Prelude.{◌≡◌, suc, ◌∷◌, IfOk};
+ghost use Rattle.std.proofs.Math.ListN.{get_elem?};
 
 use super::event::Event;
 use super::uses::Arrival;
-use grammar::{Grammar, Production, Rule, Scope, Side, Step};
+use grammar::{ChildNumber, Grammar, Production, Rule, Scope, Side, Step, VisitNumber};
 use std::alloc::{AllocError, Global};
 
-// The events of a scheme's productions, as far as they are written.
+/// The events of a scheme's productions, as far as they are written.
 #[derive(Drop)]
 pub struct Tape {
     pub events: Vec<Event>,
@@ -21,12 +21,12 @@ impl Tape {
     ghost use Rattle.lives.specs.Views.{events_in};
     ghost use Rattle.lives.specs.Writing.{Written};
 
-    // The events of all productions.
-    pub(crate) fn of(heap: Global, grammar: &Grammar) -> Result<Tape, AllocError>
+    /// The events of all productions.
+    pub(crate) fn of(alloc: Global, grammar: &Grammar) -> Result<Tape, AllocError>
         ensures { IfOk result (λ v. events_in v ≡ Model.tape (grammar_of grammar.now)) }
     {
         let mut tape = Tape {
-            events: Vec::new(heap),
+            events: Vec::new(alloc),
         };
         for production in &grammar.productions {
             let scope = Scope {
@@ -55,14 +55,9 @@ impl Tape {
         ensures { Written result self.old self.new (step_events (scheme_in scope.now) (production_in scope.now) t (step_of step)) }
     {
         match step {
-            Step::Eval(_) => match scope.production.evaluated(step) {
-                Some(rule) => self.write_eval(scope.production, t, rule),
-                None => Ok(()),
-            },
-            Step::Visit(child, visit) => {
-                self.write_visit(scope, usize::from(child.0), usize::from(visit.0))
-            }
-            Step::Leave(visit) => self.write_leave(scope, usize::from(visit.0)),
+            Step::Eval(rule) => self.write_eval(scope.production, t, rule),
+            Step::Visit(child, visit) => self.write_visit(scope, child, visit),
+            Step::Leave(visit) => self.write_leave(scope, visit),
         }
     }
 
@@ -80,9 +75,12 @@ impl Tape {
     }
 
     // An EVAL of the rule ends the lives that are read there for the last time, and then begins its target's.
-    fn write_eval(&mut self, p: &Production, t: usize, rule: &Rule) -> Result<(), AllocError>
-        ensures { Written result self.old self.new (rule_events (production_of p.now) t (some (rule_of rule.now))) }
+    fn write_eval(&mut self, p: &Production, t: usize, rule: usize) -> Result<(), AllocError>
+        ensures { Written result self.old self.new (rule_events (production_of p.now) t (get_elem? (production_of p.now).rules rule)) }
     {
+        let Some(rule) = p.rules.get(rule) else {
+            return Ok(());
+        };
         self.end_arguments(p, t, &rule.arguments)?;
         self.events.push(Event::Begins(rule.target.attribute))?;
         Ok(())
@@ -92,11 +90,13 @@ impl Tape {
     fn write_visit(
         &mut self,
         scope: &Scope<'_>,
-        position: usize,
-        section: usize,
+        child: ChildNumber,
+        visit: VisitNumber,
     ) -> Result<(), AllocError>
-        ensures { Written result self.old self.new (visit_events (scheme_in scope.now) (production_in scope.now) position section (symbol_at (production_in scope.now) position)) }
+        ensures { Written result self.old self.new (visit_events (scheme_in scope.now) (production_in scope.now) child.0 (visit_of visit) (symbol_at (production_in scope.now) child.0)) }
     {
+        let position = usize::from(child);
+        let section = usize::from(visit);
         let Some(symbol) = scope.production.symbol_at(position) else {
             return Ok(());
         };
@@ -111,10 +111,10 @@ impl Tape {
     }
 
     // After a LEAVE the next section starts.
-    fn write_leave(&mut self, scope: &Scope<'_>, section: usize) -> Result<(), AllocError>
-        requires { section < 256 }
-        ensures { Written result self.old self.new (Model.leaves section ∷ section_events (scheme_in scope.now) (production_in scope.now) (suc section)) }
+    fn write_leave(&mut self, scope: &Scope<'_>, visit: VisitNumber) -> Result<(), AllocError>
+        ensures { Written result self.old self.new (Model.leaves (visit_of visit) ∷ section_events (scheme_in scope.now) (production_in scope.now) (suc (visit_of visit))) }
     {
+        let section = usize::from(visit);
         self.events.push(Event::Leaves { section })?;
         self.write_start(scope, section + 1)
     }

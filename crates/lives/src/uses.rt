@@ -1,4 +1,4 @@
-// Lives that end: at their last use, or, where no step reads them, as they arrive.
+//! Lives that end: at their last use, or, where no step reads them, as they arrive.
 ghost use Rattle.model.specs.Lists.{any, keep};
 ghost use Rattle.model.specs.Loose.{of_visit, distinct};
 ghost use Rattle.model.specs.Sequences as Sequences;
@@ -13,7 +13,8 @@ use super::tape::Tape;
 use grammar::{Attribute, Occurrence, Production, Scope, Side, Step};
 use std::alloc::AllocError;
 
-// What arrives at a position of a production at once: the attributes of the symbol there, on a side, for a visit. The visit's number is one more than a LEAVE's, so it may be past those of a VisitNumber.
+/// What arrives at a position of a production at once: the attributes of the symbol there, on a side, for a visit.
+/// The visit's number may be one more than a LEAVE's, which a VisitNumber need not have room for.
 #[derive(Clone, Copy)]
 pub struct Arrival {
     pub position: usize,
@@ -27,7 +28,7 @@ impl Arrival {
     fn brings(self, a: Attribute) -> bool
         ensures { result ≡ arriving self.symbol (side_of self.side) self.visit (attribute_of a) }
     {
-        a.symbol == self.symbol && a.side == self.side && usize::from(a.visit.0) == self.visit
+        a.symbol == self.symbol && a.side == self.side && usize::from(a.visit) == self.visit
     }
 }
 
@@ -38,12 +39,14 @@ fn is_read(p: &Production, steps: &[Step], o: Occurrence) -> bool
     steps.iter().any(|step| p.reads(*step, o))
 }
 
-// Whether step t reads the occurrence, and no later step does.
+// Whether step t reads the occurrence, and no later step does. A production and the place of its step go together through four functions, here and
+// in tape.rt: a struct of the two would be made at each step and taken apart in each of them.
 fn is_last_use(p: &Production, t: usize, o: Occurrence) -> bool
     ensures { result ≡ last_use (production_of p.now) t (occurrence_of o) }
 {
     match p.steps.get(t..) {
         Some([step, later @ ..]) => p.reads(*step, o) && !is_read(p, later, o),
+        // past the last step nothing is read
         _ => false,
     }
 }
@@ -56,7 +59,7 @@ fn is_unused(p: &Production, o: Occurrence) -> bool
 }
 
 impl Tape {
-    // Of the lives that arrive, those that no step reads end.
+    /// Of the lives that arrive, those that no step reads end.
     pub(crate) fn end_unused(
         &mut self,
         scope: &Scope<'_>,
@@ -77,7 +80,7 @@ impl Tape {
         Ok(())
     }
 
-    // Of the arguments of step t, each life that is read there for the last time ends once.
+    /// Of the arguments of step t, each life that is read there for the last time ends once.
     pub(crate) fn end_arguments(
         &mut self,
         p: &Production,

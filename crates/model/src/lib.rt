@@ -1,5 +1,5 @@
-// What a scheme is, how it is read from words, which rules it keeps and how its figures are stored: definitions in specs/, theory in proofs/.
-// The functions here hold nothing: each asks, by its contract, for the proof of main theorems.
+//! What a scheme is, how it is read from words, which rules it keeps and how its figures are stored: definitions in specs/, theory in proofs/.
+//! The functions here hold nothing: each asks, by its contract, for the proof of main theorems.
 #![tactic(auto)]
 
 ghost use Rattle.std.specs.Prelude.{◌≡◌, ℕ, ◌≤◌, Bool, true, List, [], ◌∷◌};
@@ -19,7 +19,7 @@ ghost use Rattle.model.specs.Spans.{own, last_section, first_section};
 ghost use Rattle.model.specs.Tables.{all_sections, tables, widest};
 ghost use Rattle.model.specs.Words.{read, scheme, words_of};
 
-// Reading gives a scheme in form, within the limits, and writing it gives the words back.
+/// Reading gives a scheme in form, within the limits, and writing it gives the words back.
 pub fn reading_stands() -> u8
     ensures formed { (ws : List ℕ) (s : Scheme) → read ws ≡ scheme s → Formed s }
     ensures limited { (ws : List ℕ) (s : Scheme) → read ws ≡ scheme s → Limited s }
@@ -28,7 +28,7 @@ pub fn reading_stands() -> u8
     0
 }
 
-// The words of the house scheme say the house scheme, and are what it is written in.
+/// The words of the house scheme say the house scheme, and are what it is written in.
 pub fn house_stands() -> u8
     ensures said { read house_words ≡ scheme house }
     ensures written { words_of house ≡ house_words }
@@ -36,7 +36,7 @@ pub fn house_stands() -> u8
     0
 }
 
-// What is known of a scheme up to truncation, as a ghost field keeps it, is known.
+/// What is known of a scheme up to truncation, as a ghost field keeps it, is known.
 pub fn truncation_stands() -> u8
     ensures lawful { (s : Scheme) → ∥ Lawful s ∥₁ → Lawful s }
     ensures formed { (s : Scheme) → ∥ Formed s ∥₁ → Formed s }
@@ -45,7 +45,7 @@ pub fn truncation_stands() -> u8
     0
 }
 
-// A scheme is lawful exactly where it keeps every rule. A lawful scheme has no first broken rule, and no scheme has two.
+/// A scheme is lawful exactly where it keeps every rule. A lawful scheme has no first broken rule, and no scheme has two.
 pub fn verdict_stands() -> u8
     ensures once { (s : Scheme) (c d : Check) → FirstBroken s c → FirstBroken s d → c ≡ d }
     ensures unbroken { (s : Scheme) (c : Check) → Lawful s → FirstBroken s c → ⊥ }
@@ -55,8 +55,8 @@ pub fn verdict_stands() -> u8
     0
 }
 
-// Every attribute has exactly one letter, so a scheme has exactly one row of letters. No letter stands for want of loose walks: every section of a lawful scheme
-// has one.
+/// Every attribute has exactly one letter, so a scheme has exactly one row of letters. No letter stands for want of loose walks: every section of a lawful scheme
+/// has one.
 pub fn letters_stand() -> u8
     ensures once { (s : Scheme) → Formed s → (a : ℕ) → (l : Letter) × Lettered s a l × ((k : Letter) → Lettered s a k → k ≡ l) }
     ensures one { (s : Scheme) → Formed s → (ls ks : List Letter) → Planned s ls → Planned s ks → ls ≡ ks }
@@ -65,7 +65,7 @@ pub fn letters_stand() -> u8
     0
 }
 
-// The letters of the worked schemes.
+/// The letters of the worked schemes.
 pub fn plans_stand() -> u8
     ensures housed { Planned house (K ∷ (C ∷ (C ∷ []))) }
     ensures forked { Planned fork (K ∷ (S ∷ [])) }
@@ -73,8 +73,8 @@ pub fn plans_stand() -> u8
     0
 }
 
-// The last section that reads an attribute is the greatest of those that do, and the first that gives it its value the least. In a lawful scheme an attribute
-// of the left symbol is read in the section of its visit or later, and given its value in that section or earlier.
+/// The last section that reads an attribute is the greatest of those that do, and the first that gives it its value the least. In a lawful scheme an attribute
+/// of the left symbol is read in the section of its visit or later, and given its value in that section or earlier.
 pub fn sections_stand() -> u8
     ensures last { (s : Scheme) (x a j : ℕ) → Last s x a j (last_section x a j s.productions) }
     ensures first { (s : Scheme) (x a j : ℕ) → First s x a j (first_section x a j s.productions) }
@@ -84,7 +84,7 @@ pub fn sections_stand() -> u8
     0
 }
 
-// The sections and the tables of the worked schemes.
+/// The sections and the tables of the worked schemes.
 pub fn tables_stand() -> u8
     ensures sections { all_sections house ≡ house_sections }
     ensures tabled { tables fork (K ∷ (S ∷ [])) ≡ fork_tables }

@@ -2,19 +2,16 @@
 use Rattle.std.proofs.Common.{◌≡◌, ℕ, zero, suc, ◌+◌, ◌<◌, Bool, true, false, eqb, ◌⊎◌, List, [], ◌∷◌, ◌++◌, map, length, get_or, set, Decides, sym, refl, ap, ◌∙◌, subst, inl, inr, arith}
 use mathlib.Core.Option.{some}
 use lib.ListN.{get_elem?}
-use Rattle.std.proofs.lemmas.List.{get_or-set_same, get_or-set_other, map_push, length-append, length-map}
+use Rattle.std.proofs.lemmas.List.{get_or-set_same, get_or-set_other, map_push, length-append}
 use Rattle.std.proofs.lemmas.Bool.{true≢false, cases_eq, eq-eqb, ne_eqb}
 use Rattle.model.specs.Lists.{Has}
 use Rattle.model.specs.Scheme.{Attribute, Scheme}
 use Rattle.model.specs.Loose.{Alternate}
 use Rattle.model.specs.Spans.{stacks}
-use Rattle.model.specs.Plan as Model
-use Rattle.model.specs.Plan.{S, K, Lettered}
+use Rattle.model.specs.Plan.{Letter, S, K, Lettered}
 use Rattle.model.proofs.Spans.Conditions.{stacks_told, stacks_tested}
 use Rattle.lives.specs.Views.{member}
-use Rattle.plan.specs.declared.letter.Letter.{Letter}
 use Rattle.plan.specs.Flags.{Clear}
-use Rattle.plan.specs.Views.{letter_of}
 
 -- A SET OF ONE
 
@@ -62,17 +59,16 @@ last_or_before (w ∷ xs) x (suc k) y h = go (last_or_before xs x k y h)
 
 -- the letters of the first n attributes
 abbrev pub Lettering : Scheme → ℕ → List Letter → Type 0
-Lettering s n ls = (length ls ≡ n) × ((a : ℕ) (l : Model.Letter) → Has (map letter_of ls) a l → Model.Lettered s a l)
+Lettering s n ls = (length ls ≡ n) × ((a : ℕ) (l : Letter) → Has ls a l → Lettered s a l)
 
-pub lettering_more : (s : Scheme) (n : ℕ) (ls ks : List Letter) (l : Letter) → ks ≡ ls ++ l ∷ [] → Lettered s n (letter_of l) → Lettering s n ls → Lettering s (n + 1) ks
-lettering_more s n ls ks l e here h = (ap (λ (xs : List Letter). length xs) e ∙ length-append ls (l ∷ []) ∙ ap (λ (m : ℕ). m + 1) h.0, each)
-  where
-    each : (a : ℕ) (k : Model.Letter) → Has (map letter_of ks) a k → Lettered s a k
-    each a k g = go (last_or_before (map letter_of ls) (letter_of l) a k (subst (λ (zs : List Model.Letter). Has zs a k) (ap (map letter_of) e ∙ map_push letter_of ls l) g))
-      where
-        go : Has (map letter_of ls) a k ⊎ ((a ≡ length (map letter_of ls)) × (letter_of l ≡ k)) → Lettered s a k
-        go (inl i) = h.1 a k i
-        go (inr i) = subst (λ (j : Model.Letter). Lettered s a j) i.1 (subst (λ (m : ℕ). Lettered s m (letter_of l)) (sym (i.0 ∙ length-map ls letter_of ∙ h.0)) here)
-
-pub planned_by : (s : Scheme) (n : ℕ) (ls : List Letter) → n ≡ length s.attributes → Lettering s n ls → Model.Planned s (map letter_of ls)
-planned_by s n ls e h = (length-map ls letter_of ∙ h.0 ∙ e, h.1)
+-- of rows that hold letters, with one row more
+module _ {X : Type 0} (f : X → Letter) (s : Scheme) (n : ℕ) (xs ys : List X) (x : X) (e : ys ≡ xs ++ x ∷ []) (here : Lettered s n (f x)) where
+  pub lettering_more : Lettering s n (map f xs) → Lettering s (n + 1) (map f ys)
+  lettering_more h = subst (λ (ls : List Letter). Lettering s (n + 1) ls) (sym (ap (map f) e ∙ map_push f xs x)) (length-append (map f xs) (f x ∷ []) ∙ ap (λ (m : ℕ). m + 1) h.0, each)
+    where
+      each : (a : ℕ) (k : Letter) → Has (map f xs ++ f x ∷ []) a k → Lettered s a k
+      each a k g = go (last_or_before (map f xs) (f x) a k g)
+        where
+          go : Has (map f xs) a k ⊎ ((a ≡ length (map f xs)) × (f x ≡ k)) → Lettered s a k
+          go (inl i) = h.1 a k i
+          go (inr i) = subst (λ (j : Letter). Lettered s a j) i.1 (subst (λ (m : ℕ). Lettered s m (f x)) (sym (i.0 ∙ h.0)) here)

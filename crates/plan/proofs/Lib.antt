@@ -7,6 +7,7 @@ pub mod Limits
 pub mod Spanning
 pub mod OneStack
 pub mod Rows
+pub mod Gathered
 pub mod Held
 pub mod Zipped
 pub mod Depths

@@ -1,5 +1,4 @@
 pub mod Views
-pub mod Figures
 pub mod Placed
 pub mod Layouts
 pub mod Depths

@@ -1,11 +1,11 @@
-// A production within the limits of a scheme.
+//! A production within the limits of a scheme.
 ghost use Rattle.grammar.specs.Views.{production_of};
 ghost use Rattle.plan.specs.Placed.{Placed, Placed-prop};
 ghost use Rattle.std.specs.Prelude.{◌≤◌, length};
 
 use grammar::Production;
 
-// It has at most 64 steps and six children, and no occurrence of its rules is past the sixth child.
+/// It has at most 64 steps and six children, and no occurrence of its rules is past the sixth child.
 #[derive(Clone, Copy)]
 pub(crate) struct Bounded<'s> {
     pub production: &'s Production,

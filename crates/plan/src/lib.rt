@@ -1,4 +1,4 @@
-// A plan: which figures of a scheme share a single cell, live on a stack or stay in the tree.
+//! A plan: which figures of a scheme share a single cell, live on a stack or stay in the tree.
 #![tactic(auto)]
 
 mod bounded;

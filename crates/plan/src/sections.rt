@@ -1,4 +1,4 @@
-// In which sections of its symbol an attribute may be given its value or read.
+//! In which sections of its symbol an attribute may be given its value or read.
 ghost use Rattle.std.specs.Prelude.{◌≡◌, map, IfOk};
 ghost use Rattle.model.specs.Spans.{attribute_sections};
 ghost use Rattle.model.specs.Tables.{all_sections};
@@ -59,8 +59,8 @@ fn sections_of(scheme: &Scheme, number: usize, attribute: Attribute) -> Sections
         attribute: number,
     };
     let symbol = attribute.symbol;
-    let visit = usize::from(attribute.visit.0);
-    // a production has at most 64 steps, so the number of a section fits
+    let visit = usize::from(attribute.visit);
+    // a production has at most 64 steps, so the number of a section fits; `try_from` would give an error that cannot come
     match attribute.side {
         Side::Inherited => {
             let last = bound_of(g, symbol, visit, |p, step| p.reads(step, own), usize::max);
@@ -79,8 +79,8 @@ fn sections_of(scheme: &Scheme, number: usize, attribute: Attribute) -> Sections
     }
 }
 
-// The sections of every attribute, in their order.
-pub(crate) fn all_sections(heap: Global, scheme: &Scheme) -> Result<Vec<Sections>, AllocError>
+/// The sections of every attribute, in their order.
+pub(crate) fn all_sections(alloc: Global, scheme: &Scheme) -> Result<Vec<Sections>, AllocError>
     ensures { IfOk result (λ v. map sections_of v.items ≡ all_sections (scheme_of scheme.now)) }
 {
     scheme
@@ -89,5 +89,5 @@ pub(crate) fn all_sections(heap: Global, scheme: &Scheme) -> Result<Vec<Sections
         .iter()
         .enumerate()
         .map(|(number, attribute)| sections_of(scheme, number, *attribute))
-        .collect(heap)
+        .collect(alloc)
 }

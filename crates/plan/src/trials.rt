@@ -1,4 +1,4 @@
-// Which attributes of a scheme can have a single cell.
+//! Which attributes of a scheme can have a single cell.
 ghost use Rattle.model.specs.Loose.{Alternate};
 ghost use Rattle.model.specs.Tape.{tape};
 ghost use Rattle.lives.specs.Whole.{tape_of, symbols_of};
@@ -11,7 +11,7 @@ use lives::Lives;
 use scheme::Scheme;
 use std::alloc::{AllocError, Global};
 
-// The lives of a scheme, and for each of its attributes a flag, of which none is set.
+/// The lives of a scheme, and for each of its attributes a flag, of which none is set.
 #[derive(Drop)]
 pub(crate) struct Trials<'s> {
     pub scheme: &'s Scheme,
@@ -24,11 +24,12 @@ pub(crate) struct Trials<'s> {
 }
 
 impl<'s> Trials<'s> {
-    pub(crate) fn of(heap: Global, scheme: &'s Scheme) -> Result<Trials<'s>, AllocError>
+    /// The scheme's lives, and no flag set.
+    pub(crate) fn of(alloc: Global, scheme: &'s Scheme) -> Result<Trials<'s>, AllocError>
         ensures { IfOk result (λ t. t.scheme.now ≡ scheme.now) }
     {
-        let lives = Lives::of(heap, scheme)?;
-        let flags = vec![in heap; false; scheme.grammar().attributes.len()]?;
+        let lives = Lives::of(alloc, scheme)?;
+        let flags = vec![in alloc; false; scheme.grammar().attributes.len()]?;
         Ok(Trials {
             scheme,
             lives,
@@ -36,7 +37,7 @@ impl<'s> Trials<'s> {
         })
     }
 
-    // Whether the lives of the attribute alone alternate.
+    /// Whether the lives of the attribute alone alternate.
     pub(crate) fn is_single(&mut self, number: usize) -> bool
         requires { number < length (scheme_of self.old.scheme.now).attributes }
         ensures decided { Decides result (Alternate (scheme_of self.old.scheme.now) (nat_eq number)) }

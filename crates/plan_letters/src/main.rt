@@ -1,4 +1,4 @@
-// Reads the scheme in the file `scheme`, and says its plan or why it is refused.
+//! Reads the scheme in the file `scheme`, and says its plan or why it is refused.
 #![tactic(auto)]
 
 use program::run;

@@ -1,4 +1,4 @@
-// How much there is of a scheme.
+//! How much there is of a scheme.
 ghost use Rattle.plan_scheme.specs.Counts.{sizes_of, counts_line};
 ghost use Rattle.scheme.specs.Whole.{scheme_of};
 ghost use Rattle.std.specs.Prelude.{◌≡◌, Some};
@@ -31,9 +31,10 @@ impl fmt::Display for Counts {
     ghost output = { λ c. Some (counts_line c) };
 
     fn fmt<W: fmt::Write>(&self, f: &mut fmt::Formatter<W>) -> fmt::Result {
-        let symbols = self.symbols;
-        let attributes = self.attributes;
-        let productions = self.productions;
-        write!(f, "scheme {symbols} {attributes} {productions}")
+        write!(
+            f,
+            "scheme {} {} {}",
+            self.symbols, self.attributes, self.productions
+        )
     }
 }

@@ -1,4 +1,4 @@
-// What the programs share: the file `scheme` is read, and what it says is answered or refused.
+//! What the programs share: the file `scheme` is read, and what it says is answered or refused.
 #![tactic(auto)]
 
 ghost use Rattle.std.specs.Prelude.{◌≡◌, List, ℕ, Err, OnOk, Result};
@@ -20,7 +20,7 @@ fn bytes_of<R: Files + AllocGlobal>(rt: &R, path: &str) -> io::Result<Vec<u8>> {
     }
 }
 
-// Prints the answer for the bytes of the file `scheme`, or why they are refused. Want of memory is neither: the run fails.
+/// Prints the answer for the bytes of the file `scheme`, or why they are refused. Want of memory is neither: the run fails.
 pub fn run<
     R: Files + Print + AllocGlobal,
     A: Display + Drop,

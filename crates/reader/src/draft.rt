@@ -1,4 +1,4 @@
-// A scheme as far as it has been read. The production that is being read stands apart.
+//! A scheme as far as it has been read. The production that is being read stands apart.
 use grammar::{Grammar, Production};
 use std::alloc::Global;
 
@@ -9,27 +9,27 @@ mod reader;
 
 pub use reader::read_grammar;
 
-// What may come next.
+/// What may come next.
 #[derive(Clone, Copy)]
 pub enum Next {
     FirstSymbol,
     Symbols,
-    // so many children of the current production are still to come
+    /// how many children of the current production are still to come
     Children(usize),
     Rules,
-    // so many arguments of the current production's last rule are still to come
+    /// how many arguments of the current production's last rule are still to come
     Arguments(usize),
     Steps,
-    // the end word has been read
+    /// the end word has been read
     Nothing,
 }
 
 #[derive(Drop)]
 pub struct Draft {
-    pub heap: Global,
+    pub alloc: Global,
     pub whole: Grammar,
-    // Where none has begun this is an empty one and no Option, as in the model: `next` says whether a word may speak of it,
-    // and each question that is asked of a word has an answer either way.
+    /// No Option: `next` says whether a production has begun. Where none has, an empty one stands here, as in the model,
+    /// and so each question that is asked of a word is answered in one way.
     pub current: Production,
     pub next: Next,
 }

@@ -1,4 +1,4 @@
-// Takes a scheme's words apart into entries.
+//! Takes a scheme's words apart into entries.
 ghost use Rattle.std.specs.Prelude.{◌≡◌, ◌≤◌, length};
 ghost use Rattle.std.specs.List.{prefix_len};
 ghost use Rattle.reader.specs.Entries.{is_attribute, members};
@@ -8,14 +8,14 @@ use crate::form::Form;
 use crate::kind::Kind;
 use crate::part::Part;
 
-// The entries of a part, one after the other.
+/// The entries of a part, one after the other.
 #[derive(Drop)]
 pub struct Entries<'a> {
     rest: Part<'a>,
 }
 
 impl<'a> Entries<'a> {
-    // The entries of a whole scheme.
+    /// The entries of a whole scheme.
     pub(crate) fn of(words: &'a [u32]) -> Entries<'a>
         ensures { (result.rest.place ≡ 0) × (result.rest.words.now ≡ words.now) }
     {

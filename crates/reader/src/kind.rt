@@ -1,4 +1,4 @@
-// The kinds of word.
+//! The kinds of word.
 ghost use Rattle.std.proofs.Math.Option.{none};
 ghost use Rattle.std.specs.Prelude.{◌≡◌, MatchOption};
 ghost use Rattle.model.specs.Words.{kind, fields};
@@ -19,7 +19,7 @@ pub enum Kind {
 }
 
 impl Kind {
-    // The kind of a word, whose number stands in the word's top four bits; some numbers are no kind's.
+    /// The kind of a word, whose number stands in the word's top four bits; some numbers are no kind's. The one place where a kind is a number: words are numbers.
     pub(crate) fn of(word: u32) -> Option<Kind>
         ensures { MatchOption result (fields (kind word) word ≡ none) (λ k. kind word ≡ number_of k) }
     {

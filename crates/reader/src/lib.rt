@@ -1,4 +1,4 @@
-// Reads a grammar from words: each word in turn, refused by number where it gives cause.
+//! Reads a grammar from words: each word in turn, refused by number where it gives cause.
 #![tactic(auto)]
 
 mod draft;

@@ -1,7 +1,7 @@
 -- What a chain answers where each call of its closure decides a fact. Assumes nothing.
 use Rattle.std.proofs.Common.{◌≡◌, ℕ, zero, suc, ◌+◌, ◌-◌, ◌<◌, ◌≤◌, Bool, true, false, List, [], ◌∷◌, map, length, get_or, Decides, Some, None, Option, sym, refl, ap, ◌∙◌, ◌⊎◌, inl, inr, subst, add-zero, zero-add, arith}
 use Rattle.std.specs.Bool.{MatchBool, ⊤}
-use Rattle.std.specs.Fn.{Called, CalledAt}
+use Rattle.std.specs.Fn.{Called}
 use Rattle.std.specs.Iterator.{YieldsThen, AlwaysYields}
 use Rattle.std.specs.List.{FoldsTo, AllWithin, HoldsAt, range_with_len, enumerate_from}
 use Rattle.std.specs.declared.ops.Range.{Range}
@@ -10,11 +10,11 @@ use Rattle.std.specs.Range.{range_inclusive_len, range_inclusive_start, range_in
 use Rattle.std.proofs.iter.runs.Sources.{nat_range_inclusive_steps}
 use Rattle.std.proofs.iter.Yields.{nat_range_steps}
 use Rattle.std.specs.Option.{MatchOption}
-use Rattle.std.proofs.lemmas.Iterator.{YieldsList, cases_from_all, YieldsList-from_range, first_from_Range}
+use Rattle.std.proofs.lemmas.Iterator.{YieldsList, cases_from_all, YieldsList-from_range}
 use Rattle.std.proofs.lemmas.Bool.{both_ways, cases_Bool, cases_lt}
+use Rattle.std.proofs.lemmas.List.FromFn.{length-enumerate_from, get_or-enumerate_from}
 use Rattle.std.proofs.lemmas.Bool.Decides.{Decides-like}
 use Rattle.model.specs.Lists.{Has}
-use Rattle.std.specs.Borrow.{Bor}
 use Rattle.scheme.specs.Checked.{FirstFailing}
 use Rattle.model.proofs.Common.ListFacts.{some_none, some_same}
 use mathlib.Core.Option.{none, some}
@@ -122,10 +122,29 @@ YieldsList-from_one n s a b c = YieldsList-from_through 1 n s (rw (a, b, c) (ome
 pub decides_through : {F : Type 0} {g : Mut F (ℕ × Unit {0}) Bool} (P : ℕ → Type 0) (n : ℕ) (s u : RangeInclusive ℕ) (f : F) (r : Bool) → (xs : List ℕ) × (o : Option ℕ) × (j : F) × YieldsThen nat_range_inclusive_steps s xs o u × FoldsTo (λ p x q. Called g p (x, tt) true q) f xs j × MatchOption o (r ≡ true) (λ x. (r ≡ false) × ((h : F) × Called g j (x, tt) false h)) → range_inclusive_start s ≡ 0 → range_inclusive_end s ≡ n → range_inclusive_exhausted s ≡ false → ((x : ℕ) (b : Bool) (q : F) → Called g f (x, tt) b q → (q ≡ f) × Decides b (P x)) → Decides r ((k : ℕ) → k < suc n → P k)
 decides_through P n s u f r ran z e w each = each_below P (suc n) r (decides_each P u f r ran (YieldsList-from_through 0 (suc n) s (rw (z, e, w) (omega arith)) z) each)
 
--- ---- the first number of which the closure says that P fails
-pub first_failing : {F : Type 0} {g : Mut F (Bor ℕ × Unit {0}) Bool} (P : ℕ → Type 0) (n b : ℕ) (u : Range ℕ) (f : F) (r : Option ℕ) → (xs : List ℕ) × (j : F) × YieldsThen nat_range_steps (record { start = 0; end = b }) xs r u × FoldsTo (λ p x q. CalledAt g p x false q) f xs j × MatchOption r ⊤ (λ x. (h : F) × CalledAt g j x true h) → b ≡ n → ((k : ℕ) → n ≤ k → P k) → ((x : ℕ) (q : F) → CalledAt g f x true q → P x → ⊥) → ((x : ℕ) (q : F) → CalledAt g f x false q → (q ≡ f) × P x) → FirstFailing P r
-first_failing P n b u f r ran e past fails holds = go r (first_from_Range (record { start = 0; end = b }) u f r (λ k. P k → ⊥) P ran fails holds)
-  where
-    go : (o : Option ℕ) → MatchOption o ((k : ℕ) → 0 ≤ k → k < b → P k) (λ i. (0 ≤ i) × (i < b) × (P i → ⊥) × ((k : ℕ) → 0 ≤ k → k < i → P k)) → FirstFailing P o
-    go None h = λ k. elim (cases_lt k b) [ inl l ↦ h k (omega arith) l | inr l ↦ past k (omega arith) ]
-    go (Some i) h = (h.2, λ k l. h.3 k (omega arith) l)
+-- ---- the place of the first thing of which the closure says that P fails
+module _ {X Y : Type 0} (g : X → Y) where
+  stands : (xs : List X) (k : ℕ) (d : X) → k < length xs → Has (map g xs) k (g (get_or xs k d))
+  stands [] k d l = absurd (omega arith)
+  stands (x ∷ xs) zero d l = refl
+  stands (x ∷ xs) (suc k) d l = stands xs k d (omega arith)
+
+  beside : (xs : List X) (k : ℕ) (e : ℕ × X) → k < length xs → get_or (enumerate_from 0 xs) k e ≡ (k, get_or xs k e.1)
+  beside xs k e l = get_or-enumerate_from 0 xs k e l ∙ ap {B = ℕ × X} (λ n. (n, get_or xs k e.1)) (zero-add k)
+
+  pub placed_stands : (xs : List X) (e : ℕ × X) (k : ℕ) → k < length (enumerate_from 0 xs) → e ≡ get_or (enumerate_from 0 xs) k e → Has (map g xs) e.0 (g e.1)
+  placed_stands xs e k l h =
+      let n = length-enumerate_from 0 xs in
+      let below : k < length xs = omega (arith, l, n) in
+      subst (λ (p : ℕ × X). Has (map g xs) p.0 (g p.1)) (sym (h ∙ beside xs k e below)) (stands xs k e.1 below)
+
+  at_number : (Q : ℕ → Type 0) (xs : List X) (k : ℕ) → k < length xs → HoldsAt (λ e. Has (map g xs) e.0 (g e.1) → Q e.0) (enumerate_from 0 xs) k → Q k
+  at_number Q xs k l h =
+      let x = (there (λ _. ⊤) xs k l).0 in
+      subst (λ (p : ℕ × X). Has (map g xs) p.0 (g p.1) → Q p.0) (beside xs k (k, x) l) (h (k, x)) (stands xs k x l)
+
+  pub first_placed : (P : ℕ → Type 0) (xs : List X) (r : Option ℕ) → MatchOption r (AllWithin (λ e. Has (map g xs) e.0 (g e.1) → P e.0) (enumerate_from 0 xs) 0 (length (enumerate_from 0 xs))) (λ i. (i < length (enumerate_from 0 xs)) × HoldsAt (λ e. Has (map g xs) e.0 (g e.1) → P e.0 → ⊥) (enumerate_from 0 xs) i × AllWithin (λ e. Has (map g xs) e.0 (g e.1) → P e.0) (enumerate_from 0 xs) 0 i) → ((k : ℕ) → length xs ≤ k → P k) → FirstFailing P r
+  first_placed P xs None m past = λ k. elim (cases_lt k (length xs)) [ inl l ↦ at_number P xs k l (λ d. let n = length-enumerate_from 0 xs in m k d (omega arith) (omega (arith, l, n))) | inr l ↦ past k (omega arith) ]
+  first_placed P xs (Some i) m past =
+      let n = length-enumerate_from 0 xs in
+      (at_number (λ k. P k → ⊥) xs i (omega (arith, m.0, n)) m.1, λ k l. at_number P xs k (omega (arith, m.0, l, n)) (λ d. m.2 k d (omega arith) l))

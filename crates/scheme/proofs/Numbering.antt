@@ -1,5 +1,5 @@
 -- The numbers of steps at a position, in a row. Assumes nothing.
-use Rattle.std.proofs.Common.{◌≡◌, ℕ, zero, suc, ◌+◌, ◌-◌, ◌<◌, Bool, true, false, cond, ◌&&◌, eqb, List, [], ◌∷◌, ◌++◌, map, reverse, length, take, Some, None, Decides, sym, refl, ap, ◌∙◌, add-one, arith}
+use Rattle.std.proofs.Common.{◌≡◌, ℕ, zero, suc, ◌+◌, ◌-◌, ◌<◌, Bool, true, false, cond, eqb, List, [], ◌∷◌, ◌++◌, map, reverse, length, take, Some, None, Decides, sym, refl, ap, ◌∙◌, add-one, arith}
 use mathlib.Core.Option.{Option, none, some}
 use lib.Dec.{eqb-suc-zero}
 use lib.ListN.{get_elem?}
@@ -14,7 +14,7 @@ use Rattle.model.proofs.Common.ListFacts.{some_none, some_same, true_of, has-bel
 use Rattle.model.proofs.Common.Basics.{last_has}
 use Rattle.grammar.specs.Views.{option_of, same}
 use Rattle.std.specs.List.{filter_map, cons_option, range_with_len}
-use Rattle.std.proofs.lemmas.Bool.Decides.{Decides-like, Decides-and}
+use Rattle.std.proofs.lemmas.Bool.Decides.{Decides-like}
 use Rattle.scheme.specs.Numbers.{numbers, number_at, InSequence}
 
 -- one step more
@@ -103,5 +103,5 @@ module _ (s : Scheme) (p : Production) where
   at_each q zero x v h m = q.left_sections v (ap (get_elem? s.visits) (some_same p.left x h) ∙ m)
   at_each q (suc k) x v h m = q.children_visited k x v h m
 
-  pub sequenced_by : (e a : Bool) → Decides e (count is_leave (take 1 (reverse p.steps)) ≡ 1) → Decides a ((k : ℕ) → k < suc (length p.children) → InSequence s p k) → Decides (e && a) (Sequenced s p)
-  sequenced_by e a de da = Decides-like (e && a) (λ h. parts_sequenced h.0 h.1) (λ q. (q.ends_with_leave, λ k l. at_each q k)) (Decides-and e a de da)
+  pub sequenced_by : (r : Bool) → count is_leave (take 1 (reverse p.steps)) ≡ 1 → Decides r ((k : ℕ) → k < suc (length p.children) → InSequence s p k) → Decides r (Sequenced s p)
+  sequenced_by r e d = Decides-like r (λ h. parts_sequenced e h) (λ q k l. at_each q k) d

@@ -81,17 +81,17 @@ module _ (s : Scheme) (p : Production) (t : ℕ) where
   pub arguments_here : (n : ℕ) (q : Rule) (r : Bool) → get_elem? p.rules n ≡ some q → Decides r (AllKnown s p t q.arguments) → Decides r (ArgumentsKnown s p t n)
   arguments_here n q r e h = subst (λ (z : Option Rule). Decides r ((o : Occurrence) → T (rule_uses z o) → Known s p t o)) (sym e) h
 
-  pub arguments_absent : (n : ℕ) → get_elem? p.rules n ≡ none → Decides true (ArgumentsKnown s p t n)
-  arguments_absent n e = (λ _ o h. absurd (subst (λ (z : Option Rule). T (rule_uses z o)) e h), λ _. refl)
+  pub arguments_absent : (n : ℕ) → get_elem? p.rules n ≡ none → ArgumentsKnown s p t n
+  arguments_absent n e o h = absurd (subst (λ (z : Option Rule). T (rule_uses z o)) e h)
 
   -- each attribute that is q
   pub decides_defined : (k : ℕ) (q : Attribute) (r : Bool) → Decides r (Each (λ n a. a ≡ q → Before p t (record { position = k; attribute = n })) s.attributes) → Decides r ((a : ℕ) → Has s.attributes a q → Before p t (record { position = k; attribute = a }))
   decides_defined k q r d = Decides-like r (λ h a e. h a q e refl) (λ h a b e f. h a (e ∙ ap (λ (z : Attribute). some z) f)) d
 
   -- what a visit to child k needs
-  pub ready_child : (k x j : ℕ) (r : Bool) → 0 < k → some x ≡ symbol_at p k → Decides r ((a : ℕ) → Of s a x inherited j → Before p t (record { position = k; attribute = a })) → Decides r (Ready s p t k j)
+  pub ready_child : (k x j : ℕ) (r : Bool) → 0 < k → symbol_at p k ≡ some x → Decides r ((a : ℕ) → Of s a x inherited j → Before p t (record { position = k; attribute = a })) → Decides r (Ready s p t k j)
   ready_child zero x j r l e h = absurd (omega arith)
-  ready_child (suc k) x j r l e h = (λ u y a hy ha. let f : y ≡ x = cc in h.0 u a (subst (λ (z : ℕ). Of s a z inherited j) f ha), λ u. h.1 (λ a ha. u x a (sym e) ha))
+  ready_child (suc k) x j r l e h = (λ u y a hy ha. let f = some_same y x (sym hy ∙ e) in h.0 u a (subst (λ (z : ℕ). Of s a z inherited j) f ha), λ u. h.1 (λ a ha. u x a e ha))
 
   -- a step is ordered as its kind asks
   pub ordered-eval : (n : ℕ) (r : Bool) → some (eval n) ≡ get_elem? p.steps t → Decides r (ArgumentsKnown s p t n) → Decides r (Ordered s p t)

@@ -1,11 +1,11 @@
 -- The three tests on symbol 0. Assumes nothing.
-use Rattle.std.proofs.Common.{◌≡◌, ℕ, Bool, true, false, not, ◌&&◌, T, eqb, Some, None, Decides, sym, ap, ◌∙◌}
+use Rattle.std.proofs.Common.{◌≡◌, ℕ, Bool, true, false, not, T, eqb, Some, None, Decides, sym, ap, ◌∙◌}
 use mathlib.Core.Option.{Option, some}
 use Rattle.std.specs.declared.option.Option as Code
 use Rattle.std.specs.Option.{option_eq}
 use Rattle.grammar.specs.Views.{option_of, visit_of}
 use Rattle.grammar.specs.declared.parts.VisitNumber.{VisitNumber}
-use Rattle.std.proofs.lemmas.Bool.{and_parts, and_from, not-true, not_from_false, eqb-true, eq-eqb, both_ways}
+use Rattle.std.proofs.lemmas.Bool.{not-true, not_from_false, eqb-true, eq-eqb, both_ways}
 use Rattle.model.specs.Lists.{Has, any}
 use Rattle.model.specs.Scheme.{Side, inherited, synthesized, Attribute, Scheme}
 use Rattle.model.specs.Checking.{Rooted}
@@ -36,23 +36,17 @@ module _ (s : Scheme) where
       let h = any_find is_root f.1.children f.3 in
       q.no_child f.0 h.0 f.1 f.2 (h.2 ∙ ap some (eqb-true h.1 0 (true_of (eqb h.1 0) h.3)))
 
-  pub rooted_by : (one inherits child : Bool) → Decides one (Has s.visits 0 1) → inherits ≡ any inherited_of_root s.attributes → child ≡ any has_root_child s.productions → Decides ((one && not inherits) && not child) (Rooted s)
-  rooted_by one inherits child d e f = (there, back)
+  pub inherits_not_any : Rooted s → any inherited_of_root s.attributes ≡ false
+  inherits_not_any q = false_of (any inherited_of_root s.attributes) (inherits_not q)
+
+  pub rooted_by : (child : Bool) → Has s.visits 0 1 → any inherited_of_root s.attributes ≡ false → child ≡ any has_root_child s.productions → Decides (not child) (Rooted s)
+  rooted_by child one none e = (there, λ q. not_from_false child (e ∙ false_of (any has_root_child s.productions) (child_not q)))
     where
-      there : ((one && not inherits) && not child) ≡ true → Rooted s
+      there : not child ≡ true → Rooted s
       there t =
-          let u = and_parts (one && not inherits) (not child) t in
-          let w = and_parts one (not inherits) u.0 in
-          let a : any inherited_of_root s.attributes ≡ false = sym e ∙ not-true inherits w.1 in
-          let b : any has_root_child s.productions ≡ false = sym f ∙ not-true child u.1 in
+          let b : any has_root_child s.productions ≡ false = sym e ∙ not-true child t in
           record {
-            one_visit = d.0 w.0;
-            inherits_nothing = λ n j h. of_false (any inherited_of_root s.attributes) a (any_here inherited_of_root s.attributes n (record { symbol = 0; side = inherited; visit = j }) h tt);
+            one_visit = one;
+            inherits_nothing = λ n j h. of_false (any inherited_of_root s.attributes) none (any_here inherited_of_root s.attributes n (record { symbol = 0; side = inherited; visit = j }) h tt);
             no_child = λ n k p h m. of_false (any has_root_child s.productions) b (any_here has_root_child s.productions n p h (any_here is_root p.children k 0 m tt));
           }
-
-      back : Rooted s → ((one && not inherits) && not child) ≡ true
-      back q =
-          let a = not_from_false inherits (e ∙ false_of (any inherited_of_root s.attributes) (inherits_not q)) in
-          let b = not_from_false child (f ∙ false_of (any has_root_child s.productions) (child_not q)) in
-          and_from (one && not inherits) (not child) (and_from one (not inherits) (d.1 q.one_visit) a) b

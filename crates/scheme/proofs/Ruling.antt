@@ -1,5 +1,6 @@
 -- Defined occurrences, found by position and attribute. Assumes nothing.
-use Rattle.std.proofs.Common.{◌≡◌, ℕ, zero, suc, ◌<◌, Bool, not, ◌||◌, eqb, length, Decides, sym, refl, ap, ◌∙◌, subst, arith}
+use Rattle.std.proofs.Common.{◌≡◌, ℕ, zero, suc, ◌<◌, Bool, eqb, length, Decides, sym, refl, ap, ◌∙◌, subst, arith}
+use Rattle.std.proofs.lemmas.Bool.{eqb-true, eq-eqb}
 use mathlib.Core.Option.{none, some}
 use Rattle.std.proofs.lemmas.Bool.Decides.{Decides-like}
 use Rattle.model.specs.Lists.{count}
@@ -8,7 +9,7 @@ use Rattle.model.specs.Lawful.{Of, Defined, Defined.above as defined-above, Defi
 use Rattle.model.proofs.Common.ListFacts.{some_none, some_same, has-below}
 use Rattle.scheme.specs.Ruling.{side_defined, RuledOnce}
 use Rattle.scheme.proofs.Attributes.{from_parts, parts}
-use Rattle.scheme.proofs.Deciding.{Below, decides_where}
+use Rattle.scheme.proofs.Deciding.{Below}
 
 module _ (s : Scheme) (p : Production) where
   found_by : (o : Occurrence) → Defined s p o → (x : ℕ) × (j : ℕ) × (symbol_at p o.position ≡ some x) × Of s o.attribute x (side_defined o.position) j
@@ -32,8 +33,8 @@ module _ (s : Scheme) (p : Production) where
       into : b.side ≡ side_defined o.position → Defined s p o
       into h = let q = parts _ _ b e in defined_by o.position o.attribute b.symbol b.visit q.0 (q.1 ∙ (λ i. some (record { symbol = b.symbol; side = h i; visit = b.visit })))
 
-  pub decides_ruled : (o : Occurrence) (d : Bool) (n : ℕ) → Decides d (Defined s p o) → n ≡ count (λ (r : Rule). same_occurrence o r.target) p.rules → Decides (not d || eqb n 1) (RuledOnce s p o)
-  decides_ruled o d n h e = Decides-like _ (λ f q. sym e ∙ f q) (λ f q. e ∙ f q) (decides_where d n h)
+  pub decides_ruled : (o : Occurrence) (n : ℕ) → Defined s p o → n ≡ count (λ (r : Rule). same_occurrence o r.target) p.rules → Decides (eqb n 1) (RuledOnce s p o)
+  decides_ruled o n h e = (λ t _. sym e ∙ eqb-true n 1 t, λ f. eq-eqb n 1 (e ∙ f h))
 
   -- no occurrence is defined past the children, nor past the attributes
   pub all_attributes : (k : ℕ) → Below (λ a. RuledOnce s p (record { position = k; attribute = a })) (length s.attributes) → (a : ℕ) → RuledOnce s p (record { position = k; attribute = a })

@@ -78,3 +78,8 @@ Refused ws (NotRuledOnce n) = SaidButBroken ws (ruled n)
 Refused ws (NotEvaluatedOnce n) = SaidButBroken ws (evaluated n)
 Refused ws (BadSequence n) = SaidButBroken ws (sequenced n)
 Refused ws (TooEarly n t) = SaidButBroken ws (ordered n t)
+
+-- what is answered of the number of words alone
+abbrev pub SizeJudged : {X : Type 0} → List ℕ → Result X Refusal → Type 0
+SizeJudged ws (Ok x) = Sized ws
+SizeJudged ws (Err e) = Refused ws e

@@ -1,4 +1,4 @@
-// Whether a grammar keeps the rules on its symbols and productions.
+//! Whether a grammar keeps the rules on its symbols and productions.
 mod evaluated;
 mod judge;
 mod marks;

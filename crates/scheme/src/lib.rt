@@ -1,4 +1,4 @@
-// A scheme: a grammar of which every rule holds, or a refusal by number.
+//! A scheme: a grammar of which every rule holds, or a refusal by number.
 #![tactic(auto)]
 
 mod checks;

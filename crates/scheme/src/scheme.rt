@@ -1,4 +1,4 @@
-// A scheme: a grammar of which every rule holds.
+//! A scheme: a grammar of which every rule holds.
 ghost use Rattle.model.specs.Formed.{Formed, Limited};
 ghost use Rattle.model.specs.Lawful.{Lawful};
 ghost use Rattle.grammar.specs.Views.{grammar_of};

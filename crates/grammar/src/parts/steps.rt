@@ -1,4 +1,4 @@
-// What a step of a production does: which section it is in, what it reads and gives, which child it visits.
+//! What a step of a production does: which section it is in, what it reads and gives, which child it visits.
 ghost use Rattle.model.specs.Lawful.{is_visit};
 ghost use Rattle.model.specs.Lists.{any};
 ghost use Rattle.model.specs.Scheme.{same_occurrence};
@@ -11,16 +11,16 @@ ghost use Rattle.std.specs.Prelude.{◌≡◌, map};
 use super::{Occurrence, Production, Rule, Step, VisitNumber};
 
 impl Step {
-    // The step visits the child at the position for that visit.
+    /// The step visits the child at the position for that visit.
     pub fn visits(self, position: usize, visit: VisitNumber) -> bool
         ensures { result ≡ is_visit position (visit_of visit) (step_of self) }
     {
-        matches!(self, Step::Visit(k, j) if (position == usize::from(k.0)) & (visit == j))
+        matches!(self, Step::Visit(k, j) if position == usize::from(k) && visit == j)
     }
 }
 
 impl Production {
-    // The number of the section that step t is in, from 1; past the last step, that of one more.
+    /// The number of the section that step t is in, from 1; past the last step, that of one more.
     pub fn section(&self, t: usize) -> usize
         ensures { result ≡ Sequences.section (production_of self.now) t }
     {
@@ -32,7 +32,7 @@ impl Production {
             .count()
     }
 
-    // The rule that the step evaluates, if it is an EVAL and the rule is there.
+    /// The rule that the step evaluates, if it is an EVAL and the rule is there.
     pub fn evaluated(&self, step: Step) -> Option<&Rule>
         ensures { option_of (λ r. rule_of r.now) result ≡ step_rule (production_of self.now) (step_of step) }
     {
@@ -42,14 +42,14 @@ impl Production {
         }
     }
 
-    // The step gives the occurrence its value.
+    /// The step gives the occurrence its value.
     pub fn gives(&self, step: Step, o: Occurrence) -> bool
         ensures { result ≡ defines (production_of self.now) (step_of step) (occurrence_of o) }
     {
         self.evaluated(step).is_some_and(|rule| o == rule.target)
     }
 
-    // The step reads the value of the occurrence.
+    /// The step reads the value of the occurrence.
     pub fn reads(&self, step: Step, o: Occurrence) -> bool
         ensures { result ≡ uses (production_of self.now) (step_of step) (occurrence_of o) }
     {
@@ -59,7 +59,7 @@ impl Production {
 }
 
 impl Occurrence {
-    // The occurrence is one of these.
+    /// The occurrence is one of these.
     pub fn is_among(self, others: &[Occurrence]) -> bool
         ensures { result ≡ any (same_occurrence (occurrence_of self)) (map occurrence_of others.now) }
     {

@@ -1,4 +1,4 @@
-// A refusal's number, and the line that says it.
+//! A refusal's number, and the line that says it.
 ghost use Rattle.grammar.specs.Refusals.{number_of, line_of, LinesSpelt};
 ghost use Rattle.std.specs.Prelude.{◌≡◌, Some};
 
@@ -6,7 +6,7 @@ use super::Refusal;
 use std::fmt;
 
 impl Refusal {
-    // The number, which want of memory has not.
+    /// The number, which want of memory has not.
     pub fn number(self) -> Option<u8>
         ensures { result ≡ number_of self }
     {
@@ -31,7 +31,8 @@ impl Refusal {
     }
 }
 
-// `no`, the number and what it names; `no memory` where there was not enough.
+// `no`, the number and what it names; `no memory` where there was not enough. The lines spell the numbers once more, and `lines_stand` has it proved
+// that they are those of `number`: a line written from the number would need a row of names of its own beside it.
 impl fmt::Display for Refusal {
     ghost output = { λ e. Some (line_of e) };
 
@@ -57,7 +58,7 @@ impl fmt::Display for Refusal {
     }
 }
 
-// Each line is `no`, the number and the names, a space before each.
+/// Each line is `no`, the number and the names, a space before each.
 pub fn lines_stand() -> u8
     ensures { LinesSpelt }
 {

@@ -1,27 +1,23 @@
-// The stacks that a step pushes and pops. These are two chains and not one function of a closure, whose clause would have to say what the closure computes.
-ghost use Rattle.model.specs.Tables as Tables;
+//! The stacks that a step pushes and pops.
+ghost use Rattle.model.specs.Lists.{keep};
+ghost use Rattle.model.specs.Tables.{names};
 ghost use Rattle.plan.specs.Views.{stack_span_of};
 ghost use Rattle.std.specs.Prelude.{◌≡◌, map, IfOk};
 
 use super::StackSpan;
 use std::alloc::{AllocError, Global};
 
-// The attributes whose spans open at step t, one for each span.
-pub(super) fn opened(heap: Global, held: &[StackSpan], t: usize) -> Result<Vec<usize>, AllocError>
-    ensures { IfOk result (λ v. v.items ≡ Tables.opened (map stack_span_of held.now) t) }
+/// The attributes of the spans that pass the test, one for each span.
+pub(super) fn attributes_of<F: Fn(&StackSpan) -> bool>(
+    alloc: Global,
+    held: &[StackSpan],
+    passes: F,
+) -> Result<Vec<usize>, AllocError>
+    requires { F.IsAlwaysCallable passes }
+    ensures { (f : _) → ((h : _) (b : _) → F.post passes h b → b ≡ f (stack_span_of h.now)) → IfOk result (λ v. v.items ≡ names (keep f (map stack_span_of held.now))) }
 {
     held.iter()
-        .filter(|h| h.span.opens_at == t)
+        .filter(|h| passes(*h))
         .map(|h| h.attribute)
-        .collect(heap)
-}
-
-// The attributes whose spans close at step t, one for each span.
-pub(super) fn closed(heap: Global, held: &[StackSpan], t: usize) -> Result<Vec<usize>, AllocError>
-    ensures { IfOk result (λ v. v.items ≡ Tables.closed (map stack_span_of held.now) t) }
-{
-    held.iter()
-        .filter(|h| h.span.closes_at == t)
-        .map(|h| h.attribute)
-        .collect(heap)
+        .collect(alloc)
 }

@@ -1,5 +1,5 @@
-// How deep a value lies on the stack of its attribute. The bound on a position stands at three functions: a type for an occurrence within it would have to be made
-// anew of each argument of a rule.
+//! How deep a value lies on the stack of its attribute. The bound on a position stands at three functions: a type for an occurrence within it would have to be made
+//! anew of each argument of a rule.
 ghost use Rattle.model.specs.Spans.{open_during};
 ghost use Rattle.model.specs.Tables as Tables;
 ghost use Rattle.plan.specs.Depths.{after, Floor};
@@ -8,9 +8,9 @@ ghost use Rattle.plan.specs.Views.{span_of};
 ghost use Rattle.grammar.specs.Views.{occurrence_of};
 ghost use Rattle.std.specs.Prelude.{◌≡◌, ◌≤◌, ◌&&◌, map, All, IfOk, ◌==◌};
 
-use super::super::span::span_at;
 use super::StackSpan;
 use super::layout::Layout;
+use crate::span::span_at;
 use grammar::{ChildNumber, Occurrence};
 use std::alloc::{AllocError, Global};
 
@@ -36,11 +36,12 @@ impl Layout<'_> {
         }
         let attribute = self.figures.scheme.grammar().attribute(o.attribute)?;
         let figure = self.figures.figure(o.attribute, attribute);
+        // at most 6, so it fits
         let child = ChildNumber(o.position as u8);
-        Some(span_at(&self.bounded, figure, child).opens)
+        Some(span_at(&self.bounded, &figure, child).opens)
     }
 
-    // How many of the spans lie above the occurrence on its attribute's stack at the moment.
+    /// How many of the spans lie above the occurrence on its attribute's stack at the moment.
     pub(super) fn depth_of(&self, moment: usize, o: Occurrence) -> usize
         requires placed { o.position ≤ 6 }
         ensures { result ≡ Tables.depth (scheme_in self.now) (production_in self.now) (held_in self.now) moment (occurrence_of o) }
@@ -52,10 +53,10 @@ impl Layout<'_> {
             .count()
     }
 
-    // The depths of the occurrences.
+    /// The depths of the occurrences.
     pub(super) fn depths_of(
         &self,
-        heap: Global,
+        alloc: Global,
         moment: usize,
         occurrences: &[Occurrence],
     ) -> Result<Vec<usize>, AllocError>
@@ -65,6 +66,6 @@ impl Layout<'_> {
         occurrences
             .iter()
             .map(|o| self.depth_of(moment, *o))
-            .collect(heap)
+            .collect(alloc)
     }
 }

@@ -1,46 +1,36 @@
-// The spans that a production has on stacks.
+//! The spans that a production has on stacks.
 ghost use Rattle.model.specs.Plan.{is_stacked};
-ghost use Rattle.model.specs.Scheme.{Scheme};
 ghost use Rattle.model.specs.Spans.{spans};
 ghost use Rattle.model.specs.Tables as Tables;
 ghost use Rattle.model.specs.Tables.{on_stack};
-ghost use Rattle.plan.specs.Figures.{Sectioned};
 ghost use Rattle.plan.specs.Views.{bounded_of, letter_of, stack_span_of};
 ghost use Rattle.grammar.specs.Views.{attribute_of};
 ghost use Rattle.scheme.specs.Whole.{scheme_of};
 ghost use Rattle.std.specs.Prelude.{◌≡◌, [], ◌++◌, map, IfOk, OnOk, if◌then◌else◌};
 
-use super::super::bounded::Bounded;
-use super::super::figures::Figures;
-use super::super::letter::Letter;
-use super::super::span::{Figure, spans_of};
 use super::StackSpan;
+use crate::bounded::Bounded;
+use crate::figures::Figures;
+use crate::letter::Letter;
+use crate::plan::AttributePlan;
+use crate::span::{Figure, spans_of};
 use std::alloc::{AllocError, Global};
-
-impl Letter {
-    // On a stack of the attribute's own.
-    pub(crate) fn is_stacked(self) -> bool
-        ensures { result ≡ is_stacked (letter_of self) }
-    {
-        matches!(self, Letter::Stacked)
-    }
-}
 
 // Adds the spans of the figure in the production, if they are on a stack.
 fn add_figure(
-    heap: Global,
+    alloc: Global,
     held: &mut Vec<StackSpan>,
     bounded: &Bounded,
-    figure: Figure,
+    figure: &Figure,
     letter: Letter,
 ) -> Result<(), AllocError>
-    ensures { OnOk result (((s : Scheme) → Sectioned s figure → map stack_span_of held.new.items ≡ map stack_span_of held.old.items ++ (if is_stacked (letter_of letter) then on_stack figure.number (spans s figure.number (attribute_of figure.attribute) (bounded_of bounded.now)) else []))) }
+    ensures { OnOk result (map stack_span_of held.new.items ≡ map stack_span_of held.old.items ++ (if is_stacked (letter_of letter) then on_stack figure.now.number (spans (scheme_of figure.now.scheme.now) figure.now.number (attribute_of figure.now.attribute) (bounded_of bounded.now)) else [])) }
 {
     if !letter.is_stacked() {
         return Ok(());
     }
     let attribute = figure.number;
-    let spans = spans_of(heap, bounded, figure)?;
+    let spans = spans_of(alloc, bounded, figure)?;
     held.extend(
         spans.iter().map(|span| StackSpan {
             attribute,
@@ -49,20 +39,21 @@ fn add_figure(
     )
 }
 
-// The spans that the production has on stacks, by attribute and child.
+/// The spans that the production has on stacks, by attribute and child.
 pub(super) fn held_by(
-    heap: Global,
+    alloc: Global,
     figures: &Figures,
-    letters: &[Letter],
+    plans: &[AttributePlan],
     bounded: &Bounded,
 ) -> Result<Vec<StackSpan>, AllocError>
-    ensures { IfOk result (λ v. map stack_span_of v.items ≡ Tables.stack_spans (scheme_of figures.now.scheme.now) (map letter_of letters.now) (bounded_of bounded.now)) }
+    ensures { IfOk result (λ v. map stack_span_of v.items ≡ Tables.stack_spans (scheme_of figures.now.scheme.now) (map (λ a. letter_of a.letter) plans.now) (bounded_of bounded.now)) }
 {
-    let mut held = Vec::new(heap);
+    // a `for`: each figure's spans are appended, and may want for memory; the plans stand in a row beside the attributes, which are the scheme's own
+    let mut held = Vec::new(alloc);
     let attributes = figures.scheme.grammar().attributes.iter();
-    for (number, (attribute, letter)) in attributes.zip(letters).enumerate() {
+    for (number, (attribute, plan)) in attributes.zip(plans).enumerate() {
         let figure = figures.figure(number, *attribute);
-        add_figure(heap, &mut held, bounded, figure, *letter)?;
+        add_figure(alloc, &mut held, bounded, &figure, plan.letter)?;
     }
     Ok(held)
 }

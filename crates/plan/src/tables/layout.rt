@@ -1,7 +1,7 @@
-// A production of a scheme, with the spans that it has on stacks.
-use super::super::bounded::Bounded;
-use super::super::figures::Figures;
+//! A production of a scheme, with the spans that it has on stacks.
 use super::StackSpan;
+use crate::bounded::Bounded;
+use crate::figures::Figures;
 
 #[derive(Drop)]
 pub(super) struct Layout<'s> {

@@ -1,4 +1,4 @@
-// How many spans are open at once.
+//! How many spans are open at once.
 ghost use Rattle.model.specs.Lists.{count};
 ghost use Rattle.model.specs.Spans.{open_during};
 ghost use Rattle.model.specs.Tables.{most_open, widest_of};
@@ -17,10 +17,11 @@ impl Layout<'_> {
         self.held.iter().filter(|h| h.span.is_open(moment)).count()
     }
 
-    // The most of the spans that are open at one moment of the steps.
+    /// The most of the spans that are open at one moment of the steps.
     pub(super) fn width(&self) -> usize
         ensures { result ≡ most_open (held_in self.now) (3 * length (production_in self.now).steps) }
     {
+        // moments are numbers, three for each step, and there is no row of them to go over
         (0..3 * self.bounded.production.steps.len())
             .map(|moment| self.open_at(moment))
             .max()
@@ -28,7 +29,7 @@ impl Layout<'_> {
     }
 }
 
-// The width of the widest production.
+/// The width of the widest production.
 pub(crate) fn widest_of(tables: &[ProductionTable]) -> usize
     ensures { result ≡ widest_of (map production_table_of tables.now) }
 {

@@ -1,4 +1,4 @@
-// What each word adds.
+//! What each word adds.
 ghost use Rattle.std.specs.Prelude.{◌≡◌, map};
 ghost use Rattle.model.specs.Words as Words;
 ghost use Rattle.model.specs.Words.{taken, closed, with_step, with_argument, numbered_side};
@@ -53,7 +53,7 @@ impl Draft {
     fn begin_production(&mut self, left: usize, children: usize) -> Result<(), Refusal>
         ensures { Adds result (taken (sofar_of self.old) (Words.production left children) ≡ sofar_of self.new) }
     {
-        self.close(Production::new(self.heap, left))?;
+        self.close(Production::new(self.alloc, left))?;
         self.next = Next::Children(children).settled();
         Ok(())
     }
@@ -72,7 +72,7 @@ impl Draft {
         self.current.rules.push(Rule {
             number,
             target,
-            arguments: Vec::new(self.heap),
+            arguments: Vec::new(self.alloc),
         })?;
         self.next = Next::Arguments(arguments).settled();
         Ok(())
@@ -97,7 +97,7 @@ impl Draft {
     fn end(&mut self) -> Result<(), Refusal>
         ensures { Adds result (taken (sofar_of self.old) Words.end ≡ sofar_of self.new) }
     {
-        self.close(Production::new(self.heap, 0))?;
+        self.close(Production::new(self.alloc, 0))?;
         self.next = Next::Nothing;
         Ok(())
     }
@@ -115,7 +115,7 @@ impl Draft {
     }
 }
 
-// The side that a field says: 0 inherited, any other synthesized. Side is of another crate, so this is no `From`.
+// The side that a field says: 0 inherited, any other synthesized. No `From`, which in `grammar` would say of every number that it is a side.
 fn side_numbered(field: u8) -> Side
     ensures { side_of result ≡ numbered_side field }
 {

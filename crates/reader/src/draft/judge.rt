@@ -1,12 +1,14 @@
-// What is asked of a word before it is taken.
-ghost use Rattle.std.specs.Prelude.{◌≡◌, suc, length, nat_eq};
+//! What is asked of a word before it is taken.
+ghost use Rattle.std.specs.Prelude.{◌≡◌, suc, length, nat_eq, true, MatchOption};
 ghost use Rattle.std.proofs.Math.ListN.{get_elem?};
-ghost use Rattle.model.specs.Lists.{count};
+ghost use Rattle.std.proofs.Math.Option.{some};
+ghost use Rattle.model.specs.Lists.{any, count};
 ghost use Rattle.model.specs.Scheme as Model;
 ghost use Rattle.model.specs.Words as Words;
 ghost use Rattle.model.specs.Words.{passes_limit, present, right_sort};
 ghost use Rattle.grammar.specs.Views.{option_of, visit_of};
 ghost use Rattle.reader.specs.Forms.{form_of};
+ghost use Rattle.reader.specs.Kinds.{number_of};
 ghost use Rattle.reader.specs.Reading.{sofar_of, next_of, Judges};
 
 use super::{Draft, Next};
@@ -14,16 +16,30 @@ use crate::form::Form;
 use crate::kind::Kind;
 use grammar::{ChildNumber, Occurrence, Refusal, Scope, Side, Step, VisitNumber};
 
+// The most symbols, attributes and productions that a scheme has.
+const MOST_SYMBOLS: usize = 32;
+
+const MOST_ATTRIBUTES: usize = 128;
+
+const MOST_PRODUCTIONS: usize = 64;
+
+// The most attributes that one symbol has.
+const MOST_ATTRIBUTES_OF_SYMBOL: usize = 16;
+
+// The most rules and steps that one production has.
+const MOST_RULES: usize = 32;
+
+const MOST_STEPS: usize = 64;
+
 impl Draft {
-    // What the word at this place says, if there is no cause to refuse it.
+    /// What the word at this place says, if there is no cause to refuse it.
     pub(super) fn judge(&self, place: usize, word: u32) -> Result<Form, Refusal>
         ensures { Judges (sofar_of self.now) place word result }
     {
         // The questions are asked in this order, and the first that goes against the word is why it is refused.
-        let kind = match Kind::of(word) {
-            Some(kind) if self.next.allows(kind) => kind,
-            _ => return Err(Refusal::OutOfOrder { word: place }),
-        };
+        let kind = self
+            .kind_in_order(word)
+            .ok_or(Refusal::OutOfOrder { word: place })?;
         let form = Form::of(kind, word);
         if self.passes_limit(form) {
             return Err(Refusal::OverLimit { word: place });
@@ -40,18 +56,26 @@ impl Draft {
         Ok(form)
     }
 
+    // The word's kind, if a word of that kind may come next.
+    fn kind_in_order(&self, word: u32) -> Option<Kind>
+        ensures { MatchOption result (Words.objection (sofar_of self.now) word ≡ some 3) (λ k. (Words.kind word ≡ number_of k) × (any (nat_eq (number_of k)) (Words.kinds (next_of self.now.next)) ≡ true)) }
+    {
+        Kind::of(word).filter(|kind| self.next.allows(*kind))
+    }
+
     // One more word of this form passes a limit.
     fn passes_limit(&self, form: Form) -> bool
         ensures { result ≡ passes_limit (sofar_of self.now) (form_of form) }
     {
         match form {
-            Form::Symbol(_) => self.whole.visits.len() >= 32,
+            Form::Symbol(_) => self.whole.visits.len() >= MOST_SYMBOLS,
             Form::Attribute { .. } => {
-                self.attributes_of_last_symbol() >= 16 || self.whole.attributes.len() >= 128
+                self.attributes_of_last_symbol() >= MOST_ATTRIBUTES_OF_SYMBOL
+                    || self.whole.attributes.len() >= MOST_ATTRIBUTES
             }
-            Form::Production { .. } => self.begun() >= 64,
-            Form::Rule { .. } => self.current.rules.len() >= 32,
-            Form::Step(_) => self.current.steps.len() >= 64,
+            Form::Production { .. } => self.begun() >= MOST_PRODUCTIONS,
+            Form::Rule { .. } => self.current.rules.len() >= MOST_RULES,
+            Form::Step(_) => self.current.steps.len() >= MOST_STEPS,
             Form::Child(_) | Form::Argument(_) | Form::End => false,
         }
     }
@@ -66,7 +90,11 @@ impl Draft {
             Form::Production { left: symbol, .. } | Form::Child(symbol) => {
                 symbol < self.whole.visits.len()
             }
-            Form::Rule { target: o, .. } | Form::Argument(o) => self.belongs(o),
+            Form::Rule {
+                target: occurrence,
+                ..
+            }
+            | Form::Argument(occurrence) => self.belongs(occurrence),
             Form::Step(Step::Eval(rule)) => rule < self.current.rules.len(),
             Form::Step(Step::Visit(child, visit)) => within(visit, self.last_visit_of(child)),
             Form::Step(Step::Leave(visit)) => {
@@ -91,7 +119,7 @@ impl Draft {
         }
     }
 
-    // How many productions have begun.
+    /// How many productions have begun.
     pub(super) fn begun(&self) -> usize
         ensures { result ≡ Words.begun (sofar_of self.now) (next_of self.now.next) }
     {
@@ -114,30 +142,31 @@ impl Draft {
     }
 
     // The attribute is one of the symbol at that position of the current production.
-    fn belongs(&self, o: Occurrence) -> bool
-        ensures { result ≡ Words.belongs (Model.symbol_at (sofar_of self.now).current o.position) (get_elem? (sofar_of self.now).attributes o.attribute) }
+    fn belongs(&self, occurrence: Occurrence) -> bool
+        ensures { result ≡ Words.belongs (Model.symbol_at (sofar_of self.now).current occurrence.position) (get_elem? (sofar_of self.now).attributes occurrence.attribute) }
     {
         let scope = Scope {
             grammar: &self.whole,
             production: &self.current,
         };
-        scope.attribute_at(o).is_some()
+        scope.attribute_at(occurrence).is_some()
     }
 
-    // Synthesized at the left symbol, or inherited at a child.
-    fn defines(&self, o: Occurrence) -> bool
-        ensures { result ≡ Words.defined_here o.position (get_elem? (sofar_of self.now).attributes o.attribute) }
+    // Synthesized at the left symbol, or inherited at a child. The rules' check asks this of a side; here the attribute may be absent.
+    fn defines(&self, occurrence: Occurrence) -> bool
+        ensures { result ≡ Words.defined_here occurrence.position (get_elem? (sofar_of self.now).attributes occurrence.attribute) }
     {
-        let attribute = self.whole.attribute(o.attribute);
-        (o.position == 0) != attribute.is_some_and(|a| a.side == Side::Inherited)
+        let attribute = self.whole.attribute(occurrence.attribute);
+        let inherited = attribute.is_some_and(|attribute| attribute.side == Side::Inherited);
+        inherited == (occurrence.position > 0)
     }
 
-    // The last visit of a child of the current production.
+    // The last visit of a child of the current production: two look-ups in a row, as the check of sequences has them of a whole grammar.
     fn last_visit_of(&self, child: ChildNumber) -> Option<VisitNumber>
         ensures { option_of visit_of result ≡ Words.visits_at (sofar_of self.now) (Model.symbol_at (sofar_of self.now).current child.0) }
     {
         self.current
-            .symbol_at(usize::from(child.0))
+            .symbol_at(usize::from(child))
             .and_then(|symbol| self.whole.last_visit(symbol))
     }
 }
@@ -146,5 +175,5 @@ impl Draft {
 fn within(visit: VisitNumber, last: Option<VisitNumber>) -> bool
     ensures { result ≡ Words.within (visit_of visit) (option_of visit_of last) }
 {
-    last.is_some_and(|last| visit.0 <= last.0)
+    last.is_some_and(|last| visit <= last)
 }

@@ -1,4 +1,4 @@
-// Which kinds of word may come next, and what comes after them.
+//! Which kinds of word may come next, and what comes after them.
 ghost use Rattle.std.specs.Prelude.{◌≡◌, nat_eq};
 ghost use Rattle.model.specs.Lists.{any};
 ghost use Rattle.model.specs.Words.{kinds, one_less};
@@ -26,7 +26,7 @@ impl Next {
         }
     }
 
-    // Rules come where no child and no argument is left to come.
+    /// Rules come where no child and no argument is left to come.
     pub(super) fn settled(self) -> Next
         ensures { next_of result ≡ settled (next_of self) }
     {
@@ -36,7 +36,7 @@ impl Next {
         }
     }
 
-    // What may come after a child or an argument.
+    /// What may come after a child or an argument.
     pub(super) fn one_less(self) -> Next
         ensures { next_of result ≡ one_less (next_of self) }
     {

@@ -1,4 +1,4 @@
-// Reads a scheme's words entry by entry.
+//! Reads a scheme's words entry by entry.
 ghost use Rattle.std.specs.Prelude.{◌≡◌, [], length};
 ghost use Rattle.model.specs.Words.{at_first, read_from};
 ghost use Rattle.reader.specs.Entries.{part_of};
@@ -13,18 +13,18 @@ use std::alloc::Global;
 
 impl Draft {
     // A draft of which nothing has been read.
-    fn new(heap: Global) -> Draft
+    fn new(alloc: Global) -> Draft
         ensures { sofar_of result ≡ at_first }
     {
         let whole = Grammar {
-            visits: Vec::new(heap),
-            attributes: Vec::new(heap),
-            productions: Vec::new(heap),
+            visits: Vec::new(alloc),
+            attributes: Vec::new(alloc),
+            productions: Vec::new(alloc),
         };
         Draft {
-            heap,
+            alloc,
             whole,
-            current: Production::new(heap, 0),
+            current: Production::new(alloc, 0),
             next: Next::FirstSymbol,
         }
     }
@@ -47,7 +47,7 @@ impl Draft {
         Ok(())
     }
 
-    // A rule's word, and then its arguments'.
+    // A rule's word, and then its arguments', by a slice pattern, as the project has it for a rule's entry; `take_part` would take it too.
     fn take_rule(&mut self, part: Part<'_>) -> Result<(), Refusal>
         ensures { Reads (sofar_of self.old) part.entry.place part.entry.words.now result (sofar_of self.new) }
     {
@@ -76,7 +76,7 @@ impl Draft {
         }
     }
 
-    // The grammar that was read from so many words, if the end word was among them.
+    // The grammar that was read from `words` words, if the end word was among them.
     fn finish(self, words: usize) -> Result<Grammar, Refusal>
         ensures { Ends (read_from [] words (sofar_of self)) result }
     {
@@ -87,11 +87,11 @@ impl Draft {
     }
 }
 
-// The grammar that the words say, word by word.
-pub fn read_grammar(heap: Global, words: &[u32]) -> Result<Grammar, Refusal>
+/// The grammar that the words say, word by word.
+pub fn read_grammar(alloc: Global, words: &[u32]) -> Result<Grammar, Refusal>
     ensures { ReadAs words.now result }
 {
-    let mut draft = Draft::new(heap);
+    let mut draft = Draft::new(alloc);
     for entry in Entries::of(words) {
         draft.take_entry(entry)?;
     }

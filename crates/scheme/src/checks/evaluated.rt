@@ -1,4 +1,4 @@
-// Each rule of a production has exactly one EVAL.
+//! Each rule of a production has exactly one EVAL.
 ghost use Rattle.model.specs.Lawful.{Evaluated, is_eval_of};
 ghost use Rattle.model.specs.Lists.{count};
 ghost use Rattle.grammar.specs.Views.{production_of, step_of};
@@ -9,6 +9,7 @@ use grammar::{Production, Step};
 pub(super) fn is_evaluated(p: &Production) -> bool
     ensures { Decides result (Evaluated (production_of p.now)) }
 {
+    // The rules' numbers are counted: an EVAL names its rule by number, and no rule is looked up.
     (0..p.rules.len()).all(|rule| evals_of(&p.steps, rule) == 1)
 }
 

@@ -1,4 +1,4 @@
-// Every rule of a grammar, in the order of checking.
+//! Every rule of a grammar, in the order of checking.
 ghost use Rattle.model.specs.Lists.{Has};
 ghost use Rattle.model.specs.Formed.{Formed};
 ghost use Rattle.scheme.specs.Verdicts.{ProductionJudged, SchemeJudged};
@@ -34,18 +34,18 @@ fn judge_production(scope: &Scope<'_>, production: usize) -> Result<(), Refusal>
     Ok(())
 }
 
-// The first rule that is broken, if one is.
-pub(crate) fn judge_scheme(heap: Global, g: &Grammar) -> Result<(), Refusal>
+/// The first rule that is broken, if one is.
+pub(crate) fn judge_scheme(alloc: Global, g: &Grammar) -> Result<(), Refusal>
     requires { Formed (grammar_of g.now) }
     ensures { SchemeJudged (grammar_of g.now) result }
 {
     if !is_rooted(g) {
         return Err(Refusal::BadRoot { symbol: 0 });
     }
-    if let Some(symbol) = first_left_out(heap, g, Spread::Up)? {
+    if let Some(symbol) = first_left_out(alloc, g, Spread::Up)? {
         return Err(Refusal::NoFiniteTree { symbol });
     }
-    if let Some(symbol) = first_left_out(heap, g, Spread::Down)? {
+    if let Some(symbol) = first_left_out(alloc, g, Spread::Down)? {
         return Err(Refusal::OutOfReach { symbol });
     }
     for (number, production) in g.productions.iter().enumerate() {

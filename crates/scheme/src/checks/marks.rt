@@ -1,4 +1,4 @@
-// Marks on symbols, carried along the productions until no production carries one further.
+//! Marks on symbols, carried along the productions until no production carries one further.
 ghost use Rattle.std.specs.Prelude.{◌≡◌, ℕ, ◌<◌, true, length, Decides, IfOk};
 ghost use Rattle.model.specs.Checking.{Keeps};
 ghost use Rattle.model.specs.Formed.{Formed};
@@ -10,6 +10,7 @@ ghost use Rattle.grammar.specs.Views.{production_of, grammar_of};
 use super::spread::Spread;
 use grammar::{Grammar, Production};
 use std::alloc::{AllocError, Global};
+use std::mem::replace;
 
 // Marks on the symbols of a grammar, each on a symbol that it may stand on.
 #[derive(Drop)]
@@ -28,7 +29,7 @@ impl Marks<'_> {
         ensures round { Round self.old.way (grammar_of self.old.grammar.now) self.old.marked.items self.new.marked.items result (length (grammar_of self.old.grammar.now).productions) }
         ensures same { (self.new.grammar ≡ self.old.grammar) × (self.new.way ≡ self.old.way) }
     {
-        // No `any`: each production is followed, also after the first new mark.
+        // No `any`: each production is followed, also after the first new mark. No `fold`: its closure would change the marks.
         let mut added = false;
         for p in &self.grammar.productions {
             added |= follow(&mut self.marked, p, self.way);
@@ -58,12 +59,11 @@ fn mark(marks: &mut [bool], symbol: usize) -> bool
     ensures grown { Grown (λ x. x ≡ symbol) marks.old marks.new result }
     ensures here { marked marks.new symbol ≡ true }
 {
-    let lacked = !marks[symbol];
-    marks[symbol] = true;
-    lacked
+    !replace(&mut marks[symbol], true)
 }
 
-// Whether all the symbols are marked.
+// Whether all the symbols are marked. That they have places among the marks each of the next three asks for itself: `Marks`, which holds it of a whole grammar,
+// is taken apart for them.
 fn all_marked(marks: &[bool], symbols: &[usize]) -> bool
     requires { Placed marks.now symbols.now }
     ensures { Decides result (AllMarked marks.now symbols.now) }
@@ -77,7 +77,7 @@ fn mark_all(marks: &mut [bool], symbols: &[usize]) -> bool
     ensures grown { Grown (λ x. (k : ℕ) × Has symbols.now k x) marks.old marks.new result }
     ensures here { AllMarked marks.new symbols.now }
 {
-    // No `any`: each symbol is marked, also after the first that had no mark.
+    // No `any`: each symbol is marked, also after the first that had no mark. No `fold`: its closure would change the marks.
     let mut added = false;
     for x in symbols {
         added |= mark(marks, *x);
@@ -97,9 +97,9 @@ fn follow(marks: &mut [bool], p: &Production, way: Spread) -> bool
     }
 }
 
-// The lowest symbol that the marks do not come to: up from the productions without children, or down from the root.
+/// The lowest symbol that the marks do not come to: up from the productions without children, or down from the root.
 pub(super) fn first_left_out(
-    heap: Global,
+    alloc: Global,
     g: &Grammar,
     way: Spread,
 ) -> Result<Option<usize>, AllocError>
@@ -109,7 +109,7 @@ pub(super) fn first_left_out(
     if g.visits.is_empty() {
         return Ok(None);
     }
-    let mut marked = vec![in heap; false; g.visits.len()]?;
+    let mut marked = vec![in alloc; false; g.visits.len()]?;
     marked[0] = way == Spread::Down;
     let mut marks = Marks {
         grammar: g,

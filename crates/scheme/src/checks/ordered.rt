@@ -1,4 +1,4 @@
-// What a production's step needs is known by then.
+//! What a production's step needs is known by then.
 ghost use Rattle.model.specs.Lawful.{Ordered};
 ghost use Rattle.scheme.specs.Checked.{FirstFailing};
 ghost use Rattle.grammar.specs.Views.{scheme_in, production_in};
@@ -8,15 +8,15 @@ mod moment;
 use self::moment::Moment;
 use grammar::Scope;
 
-// The first step that needs what is not known by then.
+/// The first step that needs what is not known by then.
 pub(super) fn first_early(scope: &Scope<'_>) -> Option<usize>
     ensures { FirstFailing (Ordered (scheme_in scope.now) (production_in scope.now)) result }
 {
-    (0..scope.production.steps.len()).find(|step| {
+    scope.production.steps.iter().enumerate().position(|(number, step)| {
         let moment = Moment {
             scope: *scope,
-            step: *step,
+            step: number,
         };
-        !moment.is_ordered()
+        !moment.is_ordered(*step)
     })
 }

@@ -1,4 +1,4 @@
-// Symbol 0, the root of every tree.
+//! Symbol 0, the root of every tree.
 ghost use Rattle.model.specs.Checking.{Rooted};
 ghost use Rattle.model.specs.Lists.{any};
 ghost use Rattle.scheme.specs.Roots.{inherited_of_root, has_root_child};
@@ -7,13 +7,13 @@ ghost use Rattle.std.specs.Prelude.{◌≡◌, map, Decides};
 
 use grammar::{Attribute, Grammar, Production, Side, VisitNumber};
 
-// It has one visit and no inherited attribute, and is no child.
+/// It has one visit and no inherited attribute, and is no child.
 pub(super) fn is_rooted(g: &Grammar) -> bool
     ensures { Decides result (Rooted (grammar_of g.now)) }
 {
-    (g.last_visit(0) == Some(VisitNumber(1)))
-        & !root_inherits(&g.attributes)
-        & !root_is_child(&g.productions)
+    g.last_visit(0) == Some(VisitNumber(1))
+        && !root_inherits(&g.attributes)
+        && !root_is_child(&g.productions)
 }
 
 // Some attribute is an inherited one of the root.
@@ -22,7 +22,7 @@ fn root_inherits(attributes: &[Attribute]) -> bool
 {
     attributes
         .iter()
-        .any(|a| (a.symbol == 0) & (a.side == Side::Inherited))
+        .any(|a| a.symbol == 0 && a.side == Side::Inherited)
 }
 
 // Some production has the root as a child.

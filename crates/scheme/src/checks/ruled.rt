@@ -1,4 +1,4 @@
-// Each defined occurrence of a production has exactly one rule.
+//! Each defined occurrence of a production has exactly one rule.
 ghost use Rattle.model.specs.Lawful.{Ruled, Defined};
 ghost use Rattle.model.specs.Lists.{count};
 ghost use Rattle.model.specs.Scheme.{same_occurrence};
@@ -11,6 +11,7 @@ use grammar::{Occurrence, Rule, Scope, Side};
 pub(super) fn is_ruled(scope: &Scope<'_>) -> bool
     ensures { Decides result (Ruled (scheme_in scope.now) (production_in scope.now)) }
 {
+    // Positions and attributes are counted, here and below: an occurrence is asked about by its two numbers, and what `enumerate` would give beside them is not used.
     (0..=scope.production.children.len()).all(|position| is_ruled_at(scope, position))
 }
 
@@ -31,7 +32,7 @@ fn is_ruled_at(scope: &Scope<'_>, position: usize) -> bool
 fn is_ruled_once(scope: &Scope<'_>, o: Occurrence) -> bool
     ensures { Decides result (RuledOnce (scheme_in scope.now) (production_in scope.now) (occurrence_of o)) }
 {
-    !is_defined(scope, o) | (rules_for(&scope.production.rules, o) == 1)
+    !is_defined(scope, o) || rules_for(&scope.production.rules, o) == 1
 }
 
 // How many rules have the occurrence as their target.

@@ -1,4 +1,4 @@
-// A production's visits of each child and its leaves come each once and rising, and the last step is a LEAVE.
+//! A production's visits of each child and its leaves come each once and rising, and the last step is a LEAVE.
 ghost use Rattle.std.specs.Prelude.{◌≡◌, map, reverse, take, Decides};
 ghost use Rattle.model.specs.Lawful.{Sequenced};
 ghost use Rattle.model.specs.Lists.{count, from_on};
@@ -12,7 +12,8 @@ pub(super) fn is_sequenced(scope: &Scope<'_>) -> bool
     ensures { Decides result (Sequenced (scheme_in scope.now) (production_in scope.now)) }
 {
     let p = scope.production;
-    ends_with_leave(&p.steps) & (0..=p.children.len()).all(|k| is_in_sequence(scope, k))
+    // The positions are counted: each is asked about, also position 0, which is no child.
+    ends_with_leave(&p.steps) && (0..=p.children.len()).all(|k| is_in_sequence(scope, k))
 }
 
 // The steps' numbers at a position are those of its symbol's visits.
@@ -36,12 +37,12 @@ fn rises_to(steps: &[Step], position: usize, last: VisitNumber) -> bool
         .eq(1..=last.0)
 }
 
-// The number of the step at a position: a LEAVE has one at the left symbol, a VISIT at its child.
+// The number of the step at a position, to be compared with those of a range: a LEAVE has one at the left symbol, a VISIT at its child.
 fn number_at(step: Step, position: usize) -> Option<u8>
     ensures { option_of same result ≡ number_at position (step_of step) }
 {
     match step {
-        Step::Visit(child, number) if (position > 0) & (position == usize::from(child.0)) => {
+        Step::Visit(child, number) if position > 0 && position == usize::from(child) => {
             Some(number.0)
         }
         Step::Leave(number) if position == 0 => Some(number.0),

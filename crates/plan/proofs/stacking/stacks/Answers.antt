@@ -14,7 +14,7 @@ use Rattle.plan.proofs.stacking.stacks.Goals as goal
 
 pub invariant_of-p : goal.invariant_of-p
 invariant_of-p c =
-    let s = scheme_of c.args.scheme.now in
+    let s = scheme_of c.args.figure.now.scheme.now in
     let ps = c.deref-production-items.result.now in
     let is : map production_of ps ≡ s.productions = ap (map production_of) c.deref-production-items.ensures.value ∙ ap (λ (t : Model.Scheme). t.productions) c.grammar.ensures.value in
     record {
@@ -25,30 +25,30 @@ invariant_of-p c =
 
 pub returns-then-not-stack_up : goal.returns-then-not-stack_up
 returns-then-not-stack_up c =
-    let s = scheme_of c.args.scheme.now in
-    let f = c.args.figure in
+    let s = scheme_of c.args.figure.now.scheme.now in
+    let f = c.args.figure.now in
     let ps = c.deref-production-items.result.now in
     let p = production_of c.production-item.result in
     let test = λ (q : Production). stacks_in s f.number (attribute_of f.attribute) (production_of q) in
     let is : map production_of ps ≡ s.productions = ap (map production_of) c.deref-production-items.ensures.value ∙ ap (λ (t : Model.Scheme). t.productions) c.grammar.ensures.value in
-    let so = ap (stack_up p) (sym (c.in_ok-spans.ensures s c.requires)) ∙ ap (λ (us : List Span). stack_up p (map span_of us)) (sym c.deref.ensures.value) ∙ sym c.stack_up.ensures ∙ c.if-not-stack_up.true in
+    let so = ap (stack_up p) (sym c.in_ok-spans.ensures) ∙ ap (λ (us : List Span). stack_up p (map span_of us)) (sym c.deref.ensures.value) ∙ sym c.stack_up.ensures ∙ c.if-not-stack_up.true in
     passed_not test ps c.loop-production.production-index c.production-item.result c.loop-production-test.true c.production-item.is so c.loop-production.invariant
     ∙ sym (list_all-map (stacks_in s f.number (attribute_of f.attribute)) production_of ps) ∙ ap (list_all (stacks_in s f.number (attribute_of f.attribute))) is
 
 pub loop-production-preserved : goal.loop-production-preserved
 loop-production-preserved c =
-    let s = scheme_of c.args.scheme.now in
-    let f = c.args.figure in
+    let s = scheme_of c.args.figure.now.scheme.now in
+    let f = c.args.figure.now in
     let ps = c.deref-production-items.result.now in
     let p = production_of c.production-item.result in
     let test = λ (q : Production). stacks_in s f.number (attribute_of f.attribute) (production_of q) in
-    let so = ap (stack_up p) (sym (c.in_ok-spans.ensures s c.requires)) ∙ ap (λ (us : List Span). stack_up p (map span_of us)) (sym c.deref.ensures.value) ∙ sym c.stack_up.ensures ∙ c.if-not-stack_up.false in
+    let so = ap (stack_up p) (sym c.in_ok-spans.ensures) ∙ ap (λ (us : List Span). stack_up p (map span_of us)) (sym c.deref.ensures.value) ∙ sym c.stack_up.ensures ∙ c.if-not-stack_up.false in
     passed_on test ps c.loop-production.production-index c.production-item.result c.loop-production-test.true c.production-item.is so c.loop-production.invariant
 
 pub returns : goal.returns
 returns c =
-    let s = scheme_of c.args.scheme.now in
-    let f = c.args.figure in
+    let s = scheme_of c.args.figure.now.scheme.now in
+    let f = c.args.figure.now in
     let ps = c.deref-production-items.result.now in
     let test = λ (q : Production). stacks_in s f.number (attribute_of f.attribute) (production_of q) in
     let is : map production_of ps ≡ s.productions = ap (map production_of) c.deref-production-items.ensures.value ∙ ap (λ (t : Model.Scheme). t.productions) c.grammar.ensures.value in

@@ -1,9 +1,9 @@
-// A production before one of its steps: what is known by then, and whether it is what the step needs.
+//! A production before one of its steps: what is known by then, and whether it is what the step needs.
 ghost use Rattle.model.specs.Lawful.{is_visit, Known, Ordered, Before};
 ghost use Rattle.model.specs.Lists.{Has, any};
 ghost use Rattle.model.specs.Sequences.{section, defines};
 ghost use Rattle.scheme.specs.Readiness.{available, AllKnown, ArgumentsKnown, Ready, scheme_at, production_at};
-ghost use Rattle.grammar.specs.Views.{scheme_in, production_in, attribute_of, side_of, visit_of, occurrence_of};
+ghost use Rattle.grammar.specs.Views.{scheme_in, production_in, attribute_of, side_of, visit_of, step_of, occurrence_of};
 ghost use Rattle.std.specs.Prelude.{◌≡◌, ℕ, map, take, Decides};
 
 use grammar::{Attribute, Occurrence, Scope, Side, Step, VisitNumber};
@@ -15,20 +15,17 @@ pub(super) struct Moment<'g> {
 }
 
 impl Moment<'_> {
-    // What the step needs is known by then.
-    pub(super) fn is_ordered(&self) -> bool
+    /// What the step needs is known by then.
+    pub(super) fn is_ordered(&self, step: Step) -> bool
+        requires { Has (production_at self.now).steps self.now.step (step_of step) }
         ensures { Decides result (Ordered (scheme_at self.now) (production_at self.now) self.now.step) }
     {
-        let p = self.scope.production;
-        let Some(step) = p.steps.get(self.step).copied() else {
-            return true;
-        };
         match step {
             Step::Eval(rule) => self.knows_arguments(rule),
-            Step::Visit(child, visit) => self.is_ready_to_visit(usize::from(child.0), visit),
+            Step::Visit(child, visit) => self.is_ready_to_visit(usize::from(child), visit),
             Step::Leave(visit) => {
                 let figure = Attribute {
-                    symbol: p.left,
+                    symbol: self.scope.production.left,
                     side: Side::Synthesized,
                     visit,
                 };
@@ -41,11 +38,12 @@ impl Moment<'_> {
     fn knows_arguments(&self, rule: usize) -> bool
         ensures { Decides result (ArgumentsKnown (scheme_at self.now) (production_at self.now) self.now.step rule) }
     {
-        // Tried `is_none_or`: the check infers no result of a closure over `self` that is called once, and the proof did not close.
-        match self.scope.production.rules.get(rule) {
-            None => true,
-            Some(rule) => self.knows_each(&rule.arguments),
-        }
+        // An early return, as in `knows` and `is_ready_to_visit`: tried as `is_none_or` and `is_some_and`, but of their closures over the moment the check
+        // infers no result, and the proof did not close.
+        let Some(rule) = self.scope.production.rules.get(rule) else {
+            return true;
+        };
+        self.knows_each(&rule.arguments)
     }
 
     // Each of the occurrences is known.
@@ -59,11 +57,10 @@ impl Moment<'_> {
     fn knows(&self, o: Occurrence) -> bool
         ensures { Decides result (Known (scheme_at self.now) (production_at self.now) self.now.step (occurrence_of o)) }
     {
-        // Tried `is_some_and`: as in `knows_arguments`.
-        match self.scope.attribute_at(o) {
-            None => false,
-            Some(a) => self.is_available(o.position, a.side, a.visit),
-        }
+        let Some(a) = self.scope.attribute_at(o) else {
+            return false;
+        };
+        self.is_available(o.position, a.side, a.visit)
     }
 
     // Of the left symbol an inherited value, from the section of its visit on; of a child a synthesized one, after its visit.
@@ -72,9 +69,9 @@ impl Moment<'_> {
     {
         match side {
             Side::Inherited => {
-                (position == 0) & (usize::from(visit.0) <= self.scope.production.section(self.step))
+                position == 0 && usize::from(visit) <= self.scope.production.section(self.step)
             }
-            Side::Synthesized => (position > 0) & self.has_visited(position, visit),
+            Side::Synthesized => position > 0 && self.has_visited(position, visit),
         }
     }
 
@@ -85,17 +82,15 @@ impl Moment<'_> {
         if child == 0 {
             return true;
         }
-        match self.scope.production.symbol_at(child) {
-            None => true,
-            Some(symbol) => {
-                let figure = Attribute {
-                    symbol,
-                    side: Side::Inherited,
-                    visit,
-                };
-                self.has_defined_each(child, figure)
-            }
-        }
+        let Some(symbol) = self.scope.production.symbol_at(child) else {
+            return true;
+        };
+        let figure = Attribute {
+            symbol,
+            side: Side::Inherited,
+            visit,
+        };
+        self.has_defined_each(child, figure)
     }
 
     // Each attribute that is the same figure is defined at the position.
@@ -107,11 +102,12 @@ impl Moment<'_> {
                 position,
                 attribute,
             };
-            (*a != figure) | self.has_defined(o)
+            *a != figure || self.has_defined(o)
         })
     }
 
-    // A step before gives the occurrence its value.
+    // A step before gives the occurrence its value. This and the next are a chain and nothing else: a function of a closure would have a clause on the
+    // closure besides, and be longer than both.
     fn has_defined(&self, o: Occurrence) -> bool
         ensures { result ≡ any (λ st. defines (production_at self.now) st (occurrence_of o)) (take self.now.step (production_at self.now).steps) }
     {

@@ -11,5 +11,5 @@ bounds-self-number c = sections-below sections_of (scheme_of c.args.self.now.sch
 pub offset_bounds-self-number : goal.offset_bounds-self-number
 offset_bounds-self-number c = let below = bounds-self-number c in search rules
 
-pub returns-clause-sectioned : goal.returns-clause-sectioned
-returns-clause-sectioned c = sections-known sections_of (scheme_of c.args.self.now.scheme.now) c.args.self.now.sections.now c.args.number (attribute_of c.args.attribute) c.args.self.now.sectioned c.requires _
+pub invariant_of-result-clause-sectioned : goal.invariant_of-result-clause-sectioned
+invariant_of-result-clause-sectioned c = sections-known sections_of (scheme_of c.args.self.now.scheme.now) c.args.self.now.sections.now c.args.number (attribute_of c.args.attribute) c.args.self.now.sectioned c.requires _

@@ -20,10 +20,10 @@ on_stack-map a xs = simp map-map
 
 pub returns : goal.returns
 returns c =
-    let a = c.args.figure.number in
+    let a = c.args.figure.now.number in
     let spans = vec_items c.in_ok-spans.spans in
     let held = vec_items c.args.held.now in
     let stacked : is_stacked (letter_of c.args.letter) ≡ true = search rules in
     on_ok_weaker c.extend.result
-    (λ e s known. rw stacked (ap (map stack_span_of) e.0 ∙ map-append stack_span_of held (on_own a spans) ∙ ap (λ (hs : List Tables.StackSpan). map stack_span_of held ++ hs) (on_stack-map a spans ∙ ap (on_stack a) (c.in_ok-spans.ensures s known))))
+    (λ e. rw stacked (ap (map stack_span_of) e.0 ∙ map-append stack_span_of held (on_own a spans) ∙ ap (λ (hs : List Tables.StackSpan). map stack_span_of held ++ hs) (on_stack-map a spans ∙ ap (on_stack a) c.in_ok-spans.ensures)))
     (items_from_extend c.extend.result c.extend.ensures.ran (YieldsList-from_map _ (λ x. record { attribute = a; span = x }) (YieldsList-from_slice spans (search rules)) c.map.ensures.closure (λ x r q k. search rules)))

@@ -22,24 +22,24 @@ pub figure-figure-requires : goal.figure-figure-requires
 figure-figure-requires c =
     let g = c.grammar.result.now in
     let s = scheme_of c.args.figures.now.scheme.now in
-    let h = turn_at attribute_of letter_of (vec_items g.attributes) c.args.letters.now c.into_iter-number-iterator.result c.loop-number.number-iterator c.next.new.self (search rules) (search rules) (search rules) c.loop-number.yielded c.loop-number.yielded_by c.next.result c.next.ensures.steps _ c.in-Some.is in
+    let h = turn_at attribute_of (λ a. letter_of a.letter) (vec_items g.attributes) c.args.plans.now c.into_iter-number-iterator.result c.loop-number.number-iterator c.next.new.self (search rules) (search rules) (search rules) c.loop-number.yielded c.loop-number.yielded_by c.next.result c.next.ensures.steps _ c.in-Some.is in
     ap (λ (i : ℕ). get_elem? s.attributes i) h.number ∙ known g s _ _ c.grammar.ensures.value h.first
 
 pub loop-number-preserved : goal.loop-number-preserved
 loop-number-preserved c =
     let g = c.grammar.result.now in
     let s = scheme_of c.args.figures.now.scheme.now in
-    let h = turn_at attribute_of letter_of (vec_items g.attributes) c.args.letters.now c.into_iter-number-iterator.result c.loop-number.number-iterator c.next.new.self (search rules) (search rules) (search rules) c.loop-number.yielded c.loop-number.yielded_by c.next.result c.next.ensures.steps _ c.in-Some.is in
+    let h = turn_at attribute_of (λ a. letter_of a.letter) (vec_items g.attributes) c.args.plans.now c.into_iter-number-iterator.result c.loop-number.number-iterator c.next.new.self (search rules) (search rules) (search rules) c.loop-number.yielded c.loop-number.yielded_by c.next.result c.next.ensures.steps _ c.in-Some.is in
     rw length-append
-    (holding_more s (bounded_of c.args.bounded.now) (map letter_of c.args.letters.now) (length c.loop-number.yielded) c.figure-figure.result.number (attribute_of c.in-Some.attribute.now) (attribute_of c.figure-figure.result.attribute) (letter_of c.in-Some.letter.now) _ _
-    (known g s _ _ c.grammar.ensures.value h.first) h.second (c.figure-figure.ensures.numbered ∙ h.number) (ap attribute_of c.figure-figure.ensures.attributed) (c.in_ok-add_figure.ensures s c.figure-figure.ensures.sectioned) c.loop-number.invariant)
+    (holding_more s (bounded_of c.args.bounded.now) (map (λ a. letter_of a.letter) c.args.plans.now) (length c.loop-number.yielded) c.figure-figure.result.number (attribute_of c.in-Some.attribute.now) (attribute_of c.figure-figure.result.attribute) (letter_of c.in-Some.plan.now.letter) _ _
+    (known g s _ _ c.grammar.ensures.value h.first) h.second (c.figure-figure.ensures.numbered ∙ h.number) (ap attribute_of c.figure-figure.ensures.attributed) (rw (← c.figure-figure.ensures.same) c.in_ok-add_figure.ensures) c.loop-number.invariant)
 
 pub returns : goal.returns
 returns c =
     let g = c.grammar.result.now in
     let s = scheme_of c.args.figures.now.scheme.now in
-    let letters = c.args.letters.now in
-    let all = all_turned attribute_of letter_of (vec_items g.attributes) letters c.into_iter-number-iterator.result c.loop-number.number-iterator c.next.new.self (search rules) (search rules) (search rules) c.loop-number.yielded c.loop-number.yielded_by c.next.result c.next.ensures.steps c.in-None.is in
+    let plans = c.args.plans.now in
+    let all = all_turned attribute_of (λ a. letter_of a.letter) (vec_items g.attributes) plans c.into_iter-number-iterator.result c.loop-number.number-iterator c.next.new.self (search rules) (search rules) (search rules) c.loop-number.yielded c.loop-number.yielded_by c.next.result c.next.ensures.steps c.in-None.is in
     let attributes = many g s c.grammar.ensures.value in
-    let lettered = length-map letters letter_of in
-    holding_all s (bounded_of c.args.bounded.now) (map letter_of letters) (length c.loop-number.yielded) _ (omega arith) c.loop-number.invariant
+    let lettered = length-map plans (λ a. letter_of a.letter) in
+    holding_all s (bounded_of c.args.bounded.now) (map (λ a. letter_of a.letter) plans) (length c.loop-number.yielded) _ (omega arith) c.loop-number.invariant
