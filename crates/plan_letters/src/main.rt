@@ -1,12 +1,13 @@
 //! Reads the scheme in the file `scheme`, and says its plan or why it is refused.
 #![tactic(auto)]
 
-use program::run;
+use program::{say, scheme_bytes};
 
 mod answer;
 
 use answer::plan_line;
 
 fn main(rt: HostRuntime) -> anyhow::Result<()> {
-    run(&rt, |bytes: &[u8]| plan_line(rt.alloc(), bytes))
+    let bytes = scheme_bytes(&rt)?;
+    say(&rt, plan_line(rt.alloc(), &bytes))
 }

@@ -1,8 +1,7 @@
 //! Reads the scheme in the file `scheme`, and says how much there is of it or why it is refused.
 #![tactic(auto)]
 
-use grammar::Refusal;
-use program::run;
+use program::{say, scheme_bytes};
 use scheme::Scheme;
 
 mod counts;
@@ -10,7 +9,9 @@ mod counts;
 use counts::Counts;
 
 fn main(rt: HostRuntime) -> anyhow::Result<()> {
-    run(&rt, |bytes: &[u8]| -> Result<Counts, Refusal> {
-        Ok(Counts::from(&Scheme::from_bytes(rt.alloc(), bytes)?))
-    })
+    let bytes = scheme_bytes(&rt)?;
+    say(
+        &rt,
+        Scheme::from_bytes(rt.alloc(), &bytes).map(|scheme| Counts::from(&scheme)),
+    )
 }
