@@ -8,16 +8,15 @@ use Rattle.std.specs.Option.{option_map}
 use Rattle.std.specs.List.{slice_get, HoldsAt, list_any}
 use Rattle.std.proofs.Math.ListN.{get_elem?}
 use Rattle.model.specs.Scheme.{same_occurrence}
-use Rattle.grammar.specs.Views.{option_of, same}
+use Rattle.grammar.specs.Views.{option_of}
 use Rattle.grammar.specs.Views.{occurrence_of}
-use Rattle.std.proofs.lemmas.List.{map-id}
 use Rattle.grammar.specs.declared.parts.Occurrence.{Occurrence}
 
 -- what a look-up ensures of the place
 abbrev pub Reads : {X : Type 0} → List X → ℕ → Option (Bor X) → Type 0
 Reads xs i r = MatchOption r (length xs ≤ i) (λ x. (i < length xs) × HoldsAt (λ y. x.now ≡ y) xs i)
 
-read : {X : Type 0} (xs : List X) (i : ℕ) (r : Option (Bor X)) → Reads xs i r → option_map (λ x. x.now) r ≡ slice_get xs i
+pub read : {X : Type 0} (xs : List X) (i : ℕ) (r : Option (Bor X)) → Reads xs i r → option_map (λ x. x.now) r ≡ slice_get xs i
 read xs i None l = sym (slice_get_past xs i l)
 read xs i (Some x) h = sym (slice_get_read xs (length xs) i x.now refl h.0 (h.1 x.now))
 
@@ -35,10 +34,6 @@ module _ {X Y : Type 0} (f : X → Y) where
       seen None = refl
       seen (Some x) = refl
 
-  -- the same of its copy
-  pub get_copied : (xs ys : List X) (i : ℕ) (r : Option (Bor X)) (q : Option X) → q ≡ option_map (λ x. x.now) r → Reads xs i r → xs ≡ ys → option_of f q ≡ get_elem? (map f ys) i
-  get_copied xs ys i r q c h e = ap (option_of f) (c ∙ read xs i r h) ∙ option_of-slice_get xs i ∙ ap (λ (zs : List X). get_elem? (map f zs) i) e
-
   -- the same of what was read
   pub option_of_read : (xs : List X) (i : ℕ) (r : Option X) → r ≡ slice_get xs i → option_of f r ≡ get_elem? (map f xs) i
   option_of_read xs i r e = rw e (option_of-slice_get xs i)
@@ -50,10 +45,6 @@ module _ {X Y : Type 0} (f : X → Y) where
       seen : (o : Option (Bor X)) → option_of (λ q. f q.now) o ≡ option_of f (option_map (λ x. x.now) o)
       seen None = refl
       seen (Some x) = refl
-
--- a number stands for itself
-pub get_number : (xs ys : List ℕ) (i : ℕ) (r : Option (Bor ℕ)) (q : Option ℕ) → q ≡ option_map (λ x. x.now) r → Reads xs i r → xs ≡ ys → option_of same q ≡ get_elem? ys i
-get_number xs ys i r q c h e = get_copied same xs ys i r q c h e ∙ ap (λ (zs : List ℕ). get_elem? zs i) (map-id ys)
 
 -- a test that is the same at each thing
 pub list_any_same : {X : Type 0} (f g : X → Bool) → ((x : X) → f x ≡ g x) → (xs : List X) → list_any f xs ≡ list_any g xs

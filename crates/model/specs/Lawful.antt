@@ -18,7 +18,7 @@ pub data Used (s : Scheme) (p : Production) : Occurrence → Type 0 where
   below : {k x a j : ℕ} → Has p.children k x → Of s a x synthesized j → Used s p (record { position = suc k; attribute = a })
 
 -- exactly one place of xs has the property
-abbrev pub Once : {A : Type 0} → (A → Bool) → List A → Type 0
+abbrev pub Once {ℓ} : {A : Type ℓ} → (A → Bool) → List A → Type 0
 Once f xs = count f xs ≡ 1
 
 -- each defined occurrence has exactly one rule

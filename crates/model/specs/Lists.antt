@@ -19,7 +19,7 @@ every = list_all
 abbrev pub keep : {A : Type 0} → (A → Bool) → List A → List A
 keep = filter
 
-abbrev pub count : {A : Type 0} → (A → Bool) → List A → ℕ
+abbrev pub count {ℓ} : {A : Type ℓ} → (A → Bool) → List A → ℕ
 count f [] = 0
 count f (x ∷ xs) = cond (f x) (suc (count f xs)) (count f xs)
 

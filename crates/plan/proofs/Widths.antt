@@ -1,5 +1,5 @@
 -- The width of a production, moment by moment, and the widest of them. Assumes nothing.
-use Rattle.std.proofs.Common.{◌≡◌, ℕ, zero, suc, ◌+◌, max, List, [], ◌∷◌, map, refl, ap, ◌∙◌, arith}
+use Rattle.std.proofs.Common.{◌≡◌, ℕ, zero, suc, ◌+◌, max, List, [], ◌∷◌, length, map, refl, ap, ◌∙◌, arith}
 use Rattle.std.specs.List.{fold, range_with_len}
 use Rattle.model.specs.Lists.{count}
 use Rattle.model.specs.Spans.{open_during}
@@ -28,3 +28,12 @@ most_from hs a i (suc n) m l e =
 
 pub most-fold : (hs : List StackSpan) (n : ℕ) → fold (λ b k. max b (count (λ h. open_during k h.span) hs)) 0 (range_with_len 0 n) ≡ most_open hs n
 most-fold hs n = most_from hs 0 0 n n (omega arith) refl
+
+-- where there is no span none is open
+none : (n : ℕ) → most_open [] n ≡ 0
+none zero = refl
+none (suc n) = let e : max (most_open [] n) 0 ≡ most_open [] n = omega arith in e ∙ none n
+
+pub none_open : {X : Type 0} (u : X → StackSpan) (xs : List X) (n : ℕ) → length xs ≡ 0 → most_open (map u xs) n ≡ 0
+none_open u [] n e = none n
+none_open u (x ∷ xs) n e = absurd (omega arith)

@@ -24,17 +24,24 @@ impl Letter {
     {
         matches!(self, Letter::Stacked)
     }
+
+    /// C, S or K.
+    pub(crate) fn mark(self) -> &'static str
+        ensures { result.now ≡ mark (letter_of self) }
+    {
+        match self {
+            Letter::Single => "C",
+            Letter::Stacked => "S",
+            Letter::Kept => "K",
+        }
+    }
 }
 
-// C, S or K.
+// Its mark.
 impl fmt::Display for Letter {
     ghost output = { λ l. Some (mark (letter_of l)) };
 
     fn fmt<W: fmt::Write>(&self, f: &mut fmt::Formatter<W>) -> fmt::Result {
-        match *self {
-            Letter::Single => write!(f, "C"),
-            Letter::Stacked => write!(f, "S"),
-            Letter::Kept => write!(f, "K"),
-        }
+        f.write_str(self.mark())
     }
 }

@@ -90,7 +90,6 @@ module _ {ℓ} {A : Type ℓ} where
   pub has_one : (xs : List A) (i : ℕ) (x y : A) → Has xs i x → Has xs i y → x ≡ y
   has_one xs i x y h k = cc
 
-module _ {A : Type 0} where
   pub count_next : (f : A → Bool) (xs : List A) (b : ℕ) (x : A) → Has xs b x → T (f x) → count f (take (suc b) xs) ≡ suc (count f (take b xs))
   count_next f [] b x h t = absurd (some_none x h)
   count_next f (y ∷ ys) zero x h t = let e : f y ≡ true = subst (λ z. f z ≡ true) (sym (some_same y x h)) (true_of (f x) t) in rw e refl
@@ -129,8 +128,8 @@ module _ {A : Type 0} where
   count_like f g [] e = refl
   count_like f g (y ∷ ys) e = rw (e y, count_like f g ys e) refl
 
+module _ {A : Type 0} where
   -- what a test finds
-
   pub any_find : (f : A → Bool) (xs : List A) → T (any f xs) → (a : ℕ) × (x : A) × Has xs a x × T (f x)
   any_find f [] t = absurd t
   any_find f (y ∷ ys) t = elim (or_split (f y) (any f ys) t) [ inl h ↦ (0, y, refl, h) | inr h ↦ more (any_find f ys h) ]
@@ -143,6 +142,7 @@ module _ {A : Type 0} where
   any_here f (y ∷ ys) zero x h t = or_l (f y) (any f ys) (subst (λ z. T (f z)) (sym (some_same y x h)) t)
   any_here f (y ∷ ys) (suc a) x h t = or_r (f y) (any f ys) (any_here f ys a x h t)
 
+module _ {ℓ} {A : Type ℓ} where
   pub has-take : (xs : List A) (a b : ℕ) (x : A) → Has xs a x → a < b → Has (take b xs) a x
   has-take xs a zero x h l = absurd (not-suc-le-zero l)
   has-take [] a (suc b) x h l = h
@@ -165,6 +165,7 @@ module _ {A : Type 0} where
   drop-has [] a (suc b) x h = h
   drop-has (y ∷ ys) a (suc b) x h = subst (λ i. Has (y ∷ ys) i x) (sym (suc-add b a)) (drop-has ys a b x h)
 
+module _ {A : Type 0} where
   -- a test over the first b, and over the rest
   pub any-before : (f : A → Bool) (xs : List A) (a b : ℕ) (x : A) → Has xs a x → a < b → T (f x) → T (any f (take b xs))
   any-before f xs a b x h l t = any_here f (take b xs) a x (has-take xs a b x h l) t
@@ -186,6 +187,7 @@ module _ {A : Type 0} where
       let r = any_find f (drop b xs) t in
       (b + r.0, r.1, omega arith, drop-has xs r.0 b r.1 r.2, r.3)
 
+module _ {ℓ} {A : Type ℓ} where
   -- f holds once
   pub once_find : (f : A → Bool) (xs : List A) → count f xs ≡ 1 → (a : ℕ) × (x : A) × Has xs a x × T (f x)
   once_find f [] e = absurd (omega arith)

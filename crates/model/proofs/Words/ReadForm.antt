@@ -33,12 +33,12 @@ move_used : (s s' : Scheme) (p p' : Production) → ((a x j : ℕ) (d : Side) �
 move_used s s' p p' f e g (used-above {a = a} {j = j} h) = used-above (subst (λ (x : ℕ). Of s' a x inherited j) e (f a p.left j inherited h))
 move_used s s' p p' f e g (used-below {k = k} {x = x} {a = a} {j = j} c h) = used-below (g k x c) (f a x j synthesized h)
 
-one_alone : {A : Type 0} (x y : A) (j : ℕ) → Has (x ∷ []) j y → x ≡ y
+one_alone {ℓ} : {A : Type ℓ} (x y : A) (j : ℕ) → Has (x ∷ []) j y → x ≡ y
 one_alone x y zero h = some_same x y h
 one_alone x y (suc j) h = absurd (some_none y h)
 
 -- of a list with one more at its end: an earlier one, or that one
-pub last_or : {A : Type 0} (xs : List A) (z : A) (i : ℕ) (x : A) → Has (xs ++ (z ∷ [])) i x → Has xs i x ⊎ (z ≡ x)
+pub last_or {ℓ} : {A : Type ℓ} (xs : List A) (z : A) (i : ℕ) (x : A) → Has (xs ++ (z ∷ [])) i x → Has xs i x ⊎ (z ≡ x)
 last_or xs z i x h = go (append_find xs (z ∷ []) i x h)
   where
     go : Has xs i x ⊎ ((j : ℕ) × Has (z ∷ []) j x) → Has xs i x ⊎ (z ≡ x)

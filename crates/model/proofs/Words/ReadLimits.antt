@@ -90,7 +90,7 @@ record Bounded (q : Sofar) : Type 0 where
   whole-limited : (n : ℕ) (p : Production) → Has q.whole n p → (c k : ℕ) × LimitedAt c k p
   current-limited : T (active q.next) → LimitedAt (children-left q.next) (arguments-left q.next) q.current
 
-count_more : {A : Type 0} (f : A → Bool) (xs : List A) (b : A) (m : ℕ) → count f xs ≤ m → (T (f b) → count f xs < m) → count f (xs ++ (b ∷ [])) ≤ m
+count_more {ℓ} : {A : Type ℓ} (f : A → Bool) (xs : List A) (b : A) (m : ℕ) → count f xs ≤ m → (T (f b) → count f xs < m) → count f (xs ++ (b ∷ [])) ≤ m
 count_more f xs b m h k = go (either_way (f b))
   where
     hit : (ys : List _) → f b ≡ true → count f (ys ++ (b ∷ [])) ≡ suc (count f ys)

@@ -12,9 +12,9 @@ impl fmt::Display for Plan {
     ghost output = { λ p. Some (plan_line (letters_of p)) };
 
     fn fmt<W: fmt::Write>(&self, f: &mut fmt::Formatter<W>) -> fmt::Result {
-        write!(f, "plan ")?;
+        f.write_str("plan ")?;
         for attribute in &self.attributes {
-            write!(f, "{}", attribute.letter)?;
+            f.write_str(attribute.letter.mark())?;
         }
         Ok(())
     }

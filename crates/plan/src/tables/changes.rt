@@ -16,6 +16,10 @@ pub(super) fn attributes_of<F: Fn(&StackSpan) -> bool>(
     requires { F.IsAlwaysCallable passes }
     ensures { (f : _) → ((h : _) (b : _) → F.post passes h b → b ≡ f (stack_span_of h.now)) → IfOk result (λ v. v.items ≡ names (keep f (map stack_span_of held.now))) }
 {
+    // asked first, as in `width.rt`
+    if held.is_empty() {
+        return Ok(Vec::new(alloc));
+    }
     held.iter()
         .filter(|h| passes(*h))
         .map(|h| h.attribute)

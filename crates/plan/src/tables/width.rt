@@ -21,6 +21,10 @@ impl Layout<'_> {
     pub(super) fn width(&self) -> usize
         ensures { result ≡ most_open (held_in self.now) (3 * length (production_in self.now).steps) }
     {
+        // asked first: to go over the moments all the same, and over each step's changes (`changes.rt`), made small plans take a third longer
+        if self.held.is_empty() {
+            return 0;
+        }
         // moments are numbers, three for each step, and there is no row of them to go over
         (0..3 * self.bounded.production.steps.len())
             .map(|moment| self.open_at(moment))

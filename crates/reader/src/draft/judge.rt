@@ -133,12 +133,15 @@ impl Draft {
     fn attributes_of_last_symbol(&self) -> usize
         ensures { result ≡ count (λ a. nat_eq (suc a.symbol) (length (sofar_of self.now).visits)) (sofar_of self.now).attributes }
     {
-        let last = self.whole.visits.len().checked_sub(1);
-        self.whole
-            .attributes
-            .iter()
-            .filter(|attribute| last == Some(attribute.symbol))
-            .count()
+        let Some(last) = self.whole.visits.len().checked_sub(1) else {
+            return 0;
+        };
+        // a `for`: this is asked at every attribute word, and `filter(..).count()`, with a branch for each attribute, took half as long again
+        let mut count = 0;
+        for attribute in &self.whole.attributes {
+            count += usize::from(attribute.symbol == last);
+        }
+        count
     }
 
     // The attribute is one of the symbol at that position of the current production.

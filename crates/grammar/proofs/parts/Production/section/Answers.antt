@@ -13,4 +13,4 @@ pub returns : goal.returns
 returns c =
     let leaves : c.count.result ≡ count is_leave (take c.args.t (map step_of c.args.self.now.steps.items)) =
     rw (take-map, count-map, ← length-filter) (count_from_yields_List c.filter.result _ c.count.ensures.ran (YieldsList-from_filter _ (λ s. is_leave (step_of s)) (YieldsList-from_take c.args.t (YieldsList-from_slice c.args.self.now.steps.items cc) cc) c.filter.ensures.closure (λ x b q k. search rules))) in
-    omega arith
+    grind (arith, rules)

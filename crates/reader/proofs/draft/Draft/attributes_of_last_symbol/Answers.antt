@@ -1,22 +1,27 @@
-use Rattle.std.proofs.Common.{◌≡◌, ℕ, suc, ◌-◌, ◌≤◌, rules, tests, map, length, Option, Some, None, eqb, arith}
-use Rattle.std.specs.Option.{SomeIff, option_eq}
-use Rattle.std.proofs.lemmas.Bool.Decides.{nat_tests}
-use Rattle.std.proofs.lemmas.Iterator.{YieldsList-from_slice}
-use Rattle.std.proofs.lemmas.Iterator.Consumers.{count_from_yields_List, YieldsList-from_filter}
+use Rattle.std.proofs.Common.{◌≡◌, ℕ, suc, eqb, List, map, length, sym, ap, ◌∙◌, arith, rules}
 use Rattle.std.proofs.lemmas.List.{length-map}
-use Rattle.std.proofs.lemmas.List.Sums.{length-filter}
-use Rattle.model.proofs.Common.Seen.{count-map}
-use Rattle.grammar.specs.Views.{visit_of}
+use Rattle.model.specs.Lists.{count}
+use Rattle.model.specs.Scheme.{Attribute as ModelAttribute}
+use Rattle.reader.specs.Reading.{sofar_of}
+use Rattle.grammar.specs.Views.{attribute_of}
+use Rattle.grammar.specs.declared.parts.Attribute.{Attribute}
+use Rattle.reader.proofs.Counting.{counted_more, counted_all, count_none, count-before}
 use Rattle.reader.proofs.draft.Draft.attributes_of_last_symbol.Goals as goal
 
--- a number is one less than another
-before : (n x : ℕ) (last : Option ℕ) → SomeIff last (1 ≤ n) (n - 1) → option_eq eqb last (Some x) ≡ eqb (suc x) n
-before n x None h = grind (arith, nat_tests)
-before n x (Some y) h = grind (arith, nat_tests)
+pub returns-in_default : goal.returns-in_default
+returns-in_default c =
+    let q = sofar_of c.args.self.now in
+    let len : length q.visits ≡ c.len.result = search (rules, length-map) in
+    let none : c.len.result ≡ 0 = search (rules, arith) in
+    sym (ap (λ (n : ℕ). count (λ b. eqb (suc b.symbol) n) q.attributes) (len ∙ none) ∙ count_none q.attributes)
+
+pub loop-attribute-preserved : goal.loop-attribute-preserved
+loop-attribute-preserved c = counted_more attribute_of (λ (b : ModelAttribute). eqb b.symbol c.in-Some.last) c.deref-attribute-items.result.now c.loop-attribute.attribute-index _ c.loop-attribute.count c.from-count.result c.loop-attribute-test.true c.from-count.ensures c.loop-attribute.invariant
 
 pub returns : goal.returns
 returns c =
-    let vs = c.args.self.now.whole.visits.items in
-    let n : c.len.result ≡ length (map visit_of vs) = search (rules, length-map) in
-    let test : (x : ℕ) → option_eq eqb c.checked_sub-last.result (Some x) ≡ eqb (suc x) (length (map visit_of vs)) = λ x. rw (← n) (before c.len.result x c.checked_sub-last.result c.checked_sub-last.ensures) in
-    rw (count-map, ← length-filter) (count_from_yields_List c.filter.result _ c.count.ensures.ran (YieldsList-from_filter _ (λ a. eqb (suc a.symbol) (length (map visit_of vs))) (YieldsList-from_slice c.args.self.now.whole.attributes.items cc) c.filter.ensures.closure (λ x b q k. rw (← test x.now.symbol) (search (rules, tests)))))
+    let q = sofar_of c.args.self.now in
+    let last = c.in-Some.last in
+    let len : length q.visits ≡ suc last = search (rules, length-map, arith) in
+    let f = ap (λ (n : ℕ). count (λ b. eqb (suc b.symbol) n) q.attributes) len ∙ count-before q.attributes last in
+    counted_all attribute_of (λ (b : ModelAttribute). eqb b.symbol last) c.deref-attribute-items.result.now c.loop-attribute.attribute-index c.loop-attribute.count c.loop-attribute-test.false c.loop-attribute.invariant ∙ ap (λ (bs : List Attribute). count (λ b. eqb b.symbol last) (map attribute_of bs)) c.deref-attribute-items.ensures.value ∙ sym f

@@ -9,14 +9,12 @@ returns-then-is_empty c = none_asked c.args.way (grammar_of c.args.g.now) (simp 
 
 pub invariant_of-marks : goal.invariant_of-marks
 invariant_of-marks c =
-    let first = first_marks c.args.way (grammar_of c.args.g.now) c.len.result c.eq.result c.in_ok-marked.marked.items (search rules) (search rules) (c.in_ok-marked.ensures.items_if_clones_equal (λ y h. h)) in
     record {
       formed = ∣ c.requires ∣₁;
       size = simp (length-set, length-map) (search rules);
-      only = ∣ first.0 ∣₁;
+      only = ∣ (first_marks c.args.way (grammar_of c.args.g.now) c.len.result _ c.in_ok-marked.marked.items (search rules) (search rules) (c.in_ok-marked.ensures.items_if_clones_equal (λ y h. h))).0 ∣₁;
     }
 
 pub returns : goal.returns
 returns c =
-    let first = first_marks c.args.way (grammar_of c.args.g.now) c.len.result c.eq.result c.in_ok-marked.marked.items (search rules) (search rules) (c.in_ok-marked.ensures.items_if_clones_equal (λ y h. h)) in
-    left_out c.args.way (grammar_of c.args.g.now) _ _ c.first_unmarked.result (simp (length-set, length-map) (search rules)) first.1 c.close.ensures.full c.first_unmarked.ensures
+    left_out c.args.way (grammar_of c.args.g.now) _ _ c.first_unmarked.result (simp (length-set, length-map) (search rules)) (first_marks c.args.way (grammar_of c.args.g.now) c.len.result _ c.in_ok-marked.marked.items (search rules) (search rules) (c.in_ok-marked.ensures.items_if_clones_equal (λ y h. h))).1 c.close.ensures.full c.first_unmarked.ensures

@@ -1,4 +1,4 @@
-use Rattle.std.proofs.Common.{◌≡◌, ℕ, ◌*◌, List, length, vec_items, ap, ◌∙◌, arith, rules}
+use Rattle.std.proofs.Common.{◌≡◌, ℕ, ◌*◌, List, length, vec_items, sym, ap, ◌∙◌, arith, rules, tests}
 use Rattle.std.specs.List.{range_with_len}
 use Rattle.std.specs.Option.{unwrap_or}
 use Rattle.std.specs.Ordering.{nat_cmp, max_by_ordering}
@@ -10,11 +10,17 @@ use Rattle.model.specs.Lists.{count}
 use Rattle.model.specs.Spans.{open_during}
 use Rattle.model.specs.Tables.{StackSpan, most_open}
 use Rattle.plan.specs.Layouts.{held_in, production_in}
-use Rattle.plan.proofs.Widths.{most-fold}
+use Rattle.plan.specs.Views.{stack_span_of}
+use Rattle.plan.proofs.Widths.{most-fold, none_open}
 use Rattle.plan.proofs.tables.layout.Layout.width.Goals as goal
 
 abbrev open_in : List StackSpan → ℕ → ℕ
 open_in hs m = count (λ (h : StackSpan). open_during m h.span) hs
+
+pub returns-then-is_empty : goal.returns-then-is_empty
+returns-then-is_empty c =
+    let l = c.args.self.now in
+    sym (none_open stack_span_of (vec_items l.held) (3 * length (production_in l).steps) (search (rules, tests, arith)))
 
 pub returns : goal.returns
 returns c =
