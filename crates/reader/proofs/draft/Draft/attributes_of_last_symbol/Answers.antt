@@ -5,7 +5,7 @@ use Rattle.model.specs.Scheme.{Attribute as ModelAttribute}
 use Rattle.reader.specs.Reading.{sofar_of}
 use Rattle.grammar.specs.Views.{attribute_of}
 use Rattle.grammar.specs.declared.parts.Attribute.{Attribute}
-use Rattle.reader.proofs.Counting.{counted_more, counted_all, count_none, count-before}
+use Rattle.grammar.proofs.Counts.{counted_more, counted_all, count_none, count-before}
 use Rattle.reader.proofs.draft.Draft.attributes_of_last_symbol.Goals as goal
 
 pub returns-in_default : goal.returns-in_default

@@ -1,6 +1,6 @@
 use Rattle.std.proofs.Common.{eqb}
 use Rattle.grammar.specs.Views.{attribute_of}
-use Rattle.reader.proofs.Counting.{Counted}
+use Rattle.grammar.proofs.Counts.{Counted}
 use Rattle.reader.proofs.draft.Draft.attributes_of_last_symbol.Given as goal
 
 abbrev pub invariant-loop-attribute : goal.invariant-loop-attribute

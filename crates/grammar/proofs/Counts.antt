@@ -1,7 +1,8 @@
--- Counting along a row. Assumes nothing.
-use Rattle.std.proofs.Common.{◌≡◌, ℕ, zero, suc, ◌+◌, ◌<◌, ◌≤◌, Bool, true, false, cond, eqb, List, [], ◌∷◌, map, length, get_or, take, sym, refl, ap, ◌∙◌, suc-add, add-one, arith}
+-- Counting along a list. Assumes nothing.
+use Rattle.std.proofs.Common.{◌≡◌, ℕ, zero, suc, ◌+◌, ◌<◌, ◌≤◌, min, Bool, true, false, cond, eqb, ◌⊎◌, List, [], ◌∷◌, map, length, get_or, take, sym, refl, ap, ◌∙◌, inl, inr, suc-add, add-one, arith}
 use lib.Dec.{eqb-suc-zero, eqb-suc-suc}
 use Rattle.std.proofs.lemmas.List.{take_all}
+use Rattle.std.proofs.lemmas.Bool.{cases_lt}
 use mir.Val.{bool_byte}
 use Rattle.model.specs.Lists.{count}
 use Rattle.model.specs.Scheme.{Attribute}
@@ -41,6 +42,14 @@ module _ {X Y : Type 0} (g : X → Y) (f : Y → Bool) where
 
   pub counted_all : (xs : List X) (i n : ℕ) → length xs ≤ i → Counted xs i n → n ≡ count f (map g xs)
   counted_all xs i n l h = h.1 ∙ ap (λ (ys : List X). count f (map g ys)) (take_all i xs l)
+
+-- as many as there are
+pub take_within : {X : Type 0} (xs : List X) (t n i : ℕ) → n ≡ length xs → i ≡ min t n → take i xs ≡ take t xs
+take_within {X} xs t n i e h = go (cases_lt t n)
+  where
+    go : (t < n) ⊎ (n ≤ t) → take i xs ≡ take t xs
+    go (inl l) = let same : i ≡ t = omega arith in ap (λ (m : ℕ). take m xs) same
+    go (inr l) = take_all i xs (omega arith) ∙ sym (take_all t xs (omega arith))
 
 -- counting by the number before, or by the number itself
 pub count_none : (bs : List Attribute) → count (λ b. eqb (suc b.symbol) 0) bs ≡ 0
